@@ -1,0 +1,18 @@
+-- `controller::cycle::instruct` meets its contract: by what the byte was read as.
+-- Assumes nothing.
+use mathlib.Core.Path.{ap}
+use borrow.Author.Needs.{needs}
+use Rattle.controller.specs.Cycle.{instructed}
+use Rattle.controller.proofs.cycle.instruct.Statement.{statement}
+use Rattle.controller.proofs.cycle.instruct.Tie as tie
+
+pub instruct-spec : {M : Type 1} → statement M
+instruct-spec =
+    tie.close
+    (tie.spec
+    (λ c κs. search needs)
+    (λ c. search needs)
+    (λ c κs. search needs)
+    (λ c. search needs)
+    (λ c. rw (← c .before .before .before .before .read-for .ensures .tells, c .before .before .instruction .given .1, c .execute .ensures))
+    (λ c. rw (← c .before .before .before .read-for .ensures .tells, c .before .number .given .1)))

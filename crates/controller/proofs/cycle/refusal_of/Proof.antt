@@ -1,0 +1,21 @@
+-- `controller::cycle::refusal_of` meets its contract: the tests in the order of the definition.
+-- Assumes nothing.
+use borrow.Author.Tests.{eq-eqb, ne-eqb}
+use borrow.Author.Needs.{needs}
+use Rattle.controller.specs.Cycle.{refusal}
+use Rattle.controller.proofs.cycle.refusal_of.Statement.{statement}
+use Rattle.controller.proofs.cycle.refusal_of.Tie as tie
+
+pub refusal-of-spec : {M : Type 1} → statement M
+unfolding refusal
+refusal-of-spec =
+    tie.close
+    (tie.spec
+    (λ c. search needs)
+    (λ c. simp (ne-eqb _ _ (c .if1 .taken)))
+    (λ c κs. search needs)
+    (λ c. simp (eq-eqb _ _ (c .before .before .if1 .left), ← c .before .outside-range .ensures, c .if2 .taken))
+    (λ c κs. search needs)
+    (λ c. simp (eq-eqb _ _ (c .before .before .before .before .if1 .left), ← c .before .before .before .outside-range .ensures, c .before .before .if2 .left, ← c .before .not-a-cycle .ensures, c .if3 .taken))
+    (λ c. simp (eq-eqb _ _ (c .before .before .before .before .before .before .if1 .left), ← c .before .before .before .before .before .outside-range .ensures, c .before .before .before .before .if2 .left, ← c .before .before .before .not-a-cycle .ensures, c .before .before .if3 .left, c .if4 .taken))
+    (λ c. simp (eq-eqb _ _ (c .before .before .before .before .before .before .if1 .left), ← c .before .before .before .before .before .outside-range .ensures, c .before .before .before .before .if2 .left, ← c .before .before .before .not-a-cycle .ensures, c .before .before .if3 .left, c .if4 .left)))

@@ -1,0 +1,20 @@
+-- `controller::registers::outside_range` meets its contract.
+-- Assumes nothing.
+use mathlib.Core.Path.{refl}
+use native.Mathlib.Omega.{arith}
+use borrow.Author.Needs.{needs}
+use Rattle.controller.specs.Registers.{outside}
+use Rattle.controller.proofs.registers.outside_range.Statement.{statement}
+use Rattle.controller.proofs.registers.outside_range.Tie as tie
+
+pub outside-range-spec : {M : Type 1} → statement M
+unfolding outside
+outside-range-spec =
+    tie.close
+    (tie.spec
+    (λ c. search needs)
+    (λ c. omega arith)
+    (λ c κs. search needs)
+    (λ c. search needs)
+    (λ c. search needs)
+    (λ c. rw (c .before .before .before .before .before .before .before .saved-column .ensures) refl))

@@ -1,0 +1,118 @@
+-- One cycle on the bus: what it answers, and what the memory holds after it.
+-- Assumes nothing.
+use Prim.Native.Nat.{ℕ, _+_, _*_}
+use mathlib.Core.Path.{_≡_}
+use mathlib.Core.Bool.{Bool, true, false, cond, not, _&&_, _||_}
+use mathlib.Core.Option.{Option, none, some}
+use mathlib.Core.List.{List}
+use lib.ListN.{length}
+use lib.Dec.{ltb, eqb}
+use Rattle.instructions.specs.Refusal.{wrongSize, outOfRange, pinLow, wrongCycle}
+use Rattle.instructions.specs.Told.{Told}
+use Rattle.instructions.specs.Read.{readOf}
+use Rattle.instructions.specs.declared.numbers.Numbers.{Numbers}
+use Rattle.instructions.specs.declared.instruction.Instruction.{Instruction}
+use Rattle.controller.specs.Registers.{column, withColumn, withHolder, withPinLow, start, outside}
+use Rattle.controller.specs.Execute.{executed}
+use Rattle.controller.specs.Memory.{stored, loaded, advanced}
+use Rattle.controller.specs.declared.registers.ModifyRead.{ModifyRead}
+use Rattle.controller.specs.declared.registers.ModifyRead.the-variants.{Off, On}
+use Rattle.controller.specs.declared.registers.Registers.{Registers}
+use Rattle.controller.specs.declared.cycle.Answer.{Answer}
+use Rattle.controller.specs.declared.cycle.Answer.the-variants.{Done, Status, Read, Refused}
+
+-- ---- an answer as the paper tells it
+
+-- the number it is refused with, 0 for none, the byte that is read, and the registers after it where they may change
+pub record Outcome : Type 0 where
+  pub number : ℕ
+  pub byte : Option ℕ
+  pub registers : Option Registers
+
+abbrev pub done : Registers → Outcome
+done r = record { number = 0; byte = none; registers = some r }
+
+abbrev pub statusRead : ℕ → Outcome
+statusRead b = record { number = 0; byte = some b; registers = none }
+
+abbrev pub dataRead : ℕ → Registers → Outcome
+dataRead b r = record { number = 0; byte = some b; registers = some r }
+
+abbrev pub refusedWith : ℕ → Outcome
+refusedWith n = record { number = n; byte = none; registers = none }
+
+abbrev pub outcome : Answer → Outcome
+outcome (Done r) = done r
+outcome (Status b) = statusRead b
+outcome (Read b r) = dataRead b r
+outcome (Refused n) = refusedWith n
+
+-- ---- the six kinds
+
+-- data write: the byte enters the holder, then the column advances
+unfoldable pub written : ℕ → Registers → ℕ → Registers
+written w r v = withHolder (withColumn r (column (advanced w (r .column .0)))) v
+
+-- data read: the holder is loaded, then the column advances unless modify-read is on
+abbrev pub afterRead : ℕ → Registers → ModifyRead → ℕ → Registers
+afterRead w r Off b = written w r b
+afterRead w r (On c) b = withHolder r b
+
+-- status: bit 6 is 1 for ADC 0; bit 5 is 1 for display off; bit 4 is 1 while the pin is low; the rest 0
+unfoldable pub status : Registers → ℕ
+status r = cond (r .adc) 0 64 + cond (r .on) 0 32 + cond (r .«pin_low») 16 0
+
+-- an instruction byte that was read as this
+abbrev pub instructedBy : Registers → ℕ → Option Instruction → Outcome
+instructedBy r n (some i) = done (executed r i)
+instructedBy r n none = refusedWith n
+
+abbrev pub instructed : Registers → Told Instruction → Outcome
+instructed r t = instructedBy r (t .number) (t .value)
+
+-- kinds 0 instruction, 1 data write, 2 status read, 3 data read, 4 reset pin low, 5 reset pin high
+unfoldable pub carried : Numbers → Registers → List ℕ → ℕ → ℕ → Outcome
+carried k r m kind value =
+    cond (eqb kind 0) (instructed r (readOf k (r .awaited) value))
+    (cond (eqb kind 1) (done (written (k .width) r value))
+    (cond (eqb kind 2) (statusRead (status r))
+    (cond (eqb kind 3) (dataRead (r .holder) (afterRead (k .width) r (r .«modify_read») (loaded (k .width) m (r .page) (r .column .0))))
+    (cond (eqb kind 4) (done (start k (r .holder) true))
+    (done (withPinLow r false))))))
+
+-- only a data write changes the memory
+unfoldable pub kept : ℕ → Registers → List ℕ → ℕ → ℕ → List ℕ
+kept w r m kind value = cond (eqb kind 1) (stored w m (r .page) (r .column .0) value) m
+
+-- ---- refusals
+
+-- kind above 5, or value not 0 in kinds 2 to 5
+abbrev pub malformed : ℕ → ℕ → Bool
+malformed kind value = ltb 5 kind || (ltb 1 kind && ltb 0 value)
+
+-- pin low, and the cycle is kind 0, 1 or 3
+abbrev pub heldLow : Registers → ℕ → Bool
+heldLow r kind = r .«pin_low» && (ltb kind 2 || eqb kind 3)
+
+-- the number that a cycle is refused with before its instruction byte is looked at: 1, 2, 9, 3 in this order, 0 for none
+unfoldable pub refusal : Numbers → ℕ → Registers → ℕ → ℕ → ℕ
+refusal k n r kind value =
+    cond (not (eqb n (9 * k .width))) wrongSize
+    (cond (outside k r) outOfRange
+    (cond (malformed kind value) wrongCycle
+    (cond (heldLow r kind) pinLow
+    0)))
+
+-- ---- the whole cycle
+
+unfoldable pub answer : Numbers → Registers → List ℕ → ℕ → ℕ → Outcome
+answer k r m kind value =
+    cond (eqb (refusal k (length m) r kind value) 0) (carried k r m kind value) (refusedWith (refusal k (length m) r kind value))
+
+unfoldable pub memoryAfter : Numbers → Registers → List ℕ → ℕ → ℕ → List ℕ
+memoryAfter k r m kind value = cond (eqb (refusal k (length m) r kind value) 0) (kept (k .width) r m kind value) m
+
+-- what a cycle promises: its answer, and the memory that it leaves
+pub record Cycled (k : Numbers) (r : Registers) (before : List ℕ) (kind value : ℕ) (a : Answer) (left : List ℕ) : Type 0 where
+  pub tells : outcome a ≡ answer k r before kind value
+  pub leaves : left ≡ memoryAfter k r before kind value

@@ -1,0 +1,7 @@
+pub mod Registers
+pub mod Execute
+pub mod Memory
+pub mod Cycle
+pub mod Run
+pub mod State
+pub mod Chip

@@ -1,0 +1,111 @@
+-- The registers: a setter for each, their start values and their ranges.
+-- Assumes nothing.
+use Prim.Native.Nat.{ℕ, _*_, _<_}
+use mathlib.Core.Path.{_≡_}
+use mathlib.Core.Bool.{Bool, true, false, _||_}
+use lib.Dec.{ltb, leb}
+use Rattle.instructions.specs.declared.numbers.Numbers.{Numbers}
+use Rattle.instructions.specs.declared.instruction.Awaited.{Awaited}
+use Rattle.instructions.specs.declared.instruction.Awaited.the-variants.{Nothing}
+use Rattle.controller.specs.declared.registers.Column.{Column}
+use Rattle.controller.specs.declared.registers.ModifyRead.{ModifyRead}
+use Rattle.controller.specs.declared.registers.ModifyRead.the-variants.{Off, On}
+use Rattle.controller.specs.declared.registers.Registers.{Registers}
+
+abbrev pub column : ℕ → Column
+column c = record { 0 = c }
+
+-- ---- the registers from their values, in the order of the struct, and with one of them set anew
+
+abbrev pub regs : ℕ → Column → ℕ → ℕ → ℕ → ℕ → Bool → Bool → Bool → Bool → Bool → Bool → Bool → ℕ → ℕ → Bool → ModifyRead → Awaited → Registers
+regs page column «start_line» contrast resistor power bias adc shl reverse entire on indicator «indicator_value» holder «pin_low» «modify_read» awaited =
+    record { page = page; column = column; «start_line» = «start_line»; contrast = contrast; resistor = resistor; power = power; bias = bias; adc = adc; shl = shl; reverse = reverse; entire = entire; on = on; indicator = indicator; «indicator_value» = «indicator_value»; holder = holder; «pin_low» = «pin_low»; «modify_read» = «modify_read»; awaited = awaited }
+
+abbrev pub withPage : Registers → ℕ → Registers
+withPage r v = regs v (r .column) (r .«start_line») (r .contrast) (r .resistor) (r .power) (r .bias) (r .adc) (r .shl) (r .reverse) (r .entire) (r .on) (r .indicator) (r .«indicator_value») (r .holder) (r .«pin_low») (r .«modify_read») (r .awaited)
+
+abbrev pub withColumn : Registers → Column → Registers
+withColumn r v = regs (r .page) v (r .«start_line») (r .contrast) (r .resistor) (r .power) (r .bias) (r .adc) (r .shl) (r .reverse) (r .entire) (r .on) (r .indicator) (r .«indicator_value») (r .holder) (r .«pin_low») (r .«modify_read») (r .awaited)
+
+abbrev pub withStartLine : Registers → ℕ → Registers
+withStartLine r v = regs (r .page) (r .column) v (r .contrast) (r .resistor) (r .power) (r .bias) (r .adc) (r .shl) (r .reverse) (r .entire) (r .on) (r .indicator) (r .«indicator_value») (r .holder) (r .«pin_low») (r .«modify_read») (r .awaited)
+
+abbrev pub withContrast : Registers → ℕ → Registers
+withContrast r v = regs (r .page) (r .column) (r .«start_line») v (r .resistor) (r .power) (r .bias) (r .adc) (r .shl) (r .reverse) (r .entire) (r .on) (r .indicator) (r .«indicator_value») (r .holder) (r .«pin_low») (r .«modify_read») (r .awaited)
+
+abbrev pub withResistor : Registers → ℕ → Registers
+withResistor r v = regs (r .page) (r .column) (r .«start_line») (r .contrast) v (r .power) (r .bias) (r .adc) (r .shl) (r .reverse) (r .entire) (r .on) (r .indicator) (r .«indicator_value») (r .holder) (r .«pin_low») (r .«modify_read») (r .awaited)
+
+abbrev pub withPower : Registers → ℕ → Registers
+withPower r v = regs (r .page) (r .column) (r .«start_line») (r .contrast) (r .resistor) v (r .bias) (r .adc) (r .shl) (r .reverse) (r .entire) (r .on) (r .indicator) (r .«indicator_value») (r .holder) (r .«pin_low») (r .«modify_read») (r .awaited)
+
+abbrev pub withBias : Registers → Bool → Registers
+withBias r v = regs (r .page) (r .column) (r .«start_line») (r .contrast) (r .resistor) (r .power) v (r .adc) (r .shl) (r .reverse) (r .entire) (r .on) (r .indicator) (r .«indicator_value») (r .holder) (r .«pin_low») (r .«modify_read») (r .awaited)
+
+abbrev pub withAdc : Registers → Bool → Registers
+withAdc r v = regs (r .page) (r .column) (r .«start_line») (r .contrast) (r .resistor) (r .power) (r .bias) v (r .shl) (r .reverse) (r .entire) (r .on) (r .indicator) (r .«indicator_value») (r .holder) (r .«pin_low») (r .«modify_read») (r .awaited)
+
+abbrev pub withShl : Registers → Bool → Registers
+withShl r v = regs (r .page) (r .column) (r .«start_line») (r .contrast) (r .resistor) (r .power) (r .bias) (r .adc) v (r .reverse) (r .entire) (r .on) (r .indicator) (r .«indicator_value») (r .holder) (r .«pin_low») (r .«modify_read») (r .awaited)
+
+abbrev pub withReverse : Registers → Bool → Registers
+withReverse r v = regs (r .page) (r .column) (r .«start_line») (r .contrast) (r .resistor) (r .power) (r .bias) (r .adc) (r .shl) v (r .entire) (r .on) (r .indicator) (r .«indicator_value») (r .holder) (r .«pin_low») (r .«modify_read») (r .awaited)
+
+abbrev pub withEntire : Registers → Bool → Registers
+withEntire r v = regs (r .page) (r .column) (r .«start_line») (r .contrast) (r .resistor) (r .power) (r .bias) (r .adc) (r .shl) (r .reverse) v (r .on) (r .indicator) (r .«indicator_value») (r .holder) (r .«pin_low») (r .«modify_read») (r .awaited)
+
+abbrev pub withOn : Registers → Bool → Registers
+withOn r v = regs (r .page) (r .column) (r .«start_line») (r .contrast) (r .resistor) (r .power) (r .bias) (r .adc) (r .shl) (r .reverse) (r .entire) v (r .indicator) (r .«indicator_value») (r .holder) (r .«pin_low») (r .«modify_read») (r .awaited)
+
+abbrev pub withIndicator : Registers → Bool → Registers
+withIndicator r v = regs (r .page) (r .column) (r .«start_line») (r .contrast) (r .resistor) (r .power) (r .bias) (r .adc) (r .shl) (r .reverse) (r .entire) (r .on) v (r .«indicator_value») (r .holder) (r .«pin_low») (r .«modify_read») (r .awaited)
+
+abbrev pub withIndicatorValue : Registers → ℕ → Registers
+withIndicatorValue r v = regs (r .page) (r .column) (r .«start_line») (r .contrast) (r .resistor) (r .power) (r .bias) (r .adc) (r .shl) (r .reverse) (r .entire) (r .on) (r .indicator) v (r .holder) (r .«pin_low») (r .«modify_read») (r .awaited)
+
+abbrev pub withHolder : Registers → ℕ → Registers
+withHolder r v = regs (r .page) (r .column) (r .«start_line») (r .contrast) (r .resistor) (r .power) (r .bias) (r .adc) (r .shl) (r .reverse) (r .entire) (r .on) (r .indicator) (r .«indicator_value») v (r .«pin_low») (r .«modify_read») (r .awaited)
+
+abbrev pub withPinLow : Registers → Bool → Registers
+withPinLow r v = regs (r .page) (r .column) (r .«start_line») (r .contrast) (r .resistor) (r .power) (r .bias) (r .adc) (r .shl) (r .reverse) (r .entire) (r .on) (r .indicator) (r .«indicator_value») (r .holder) v (r .«modify_read») (r .awaited)
+
+abbrev pub withModifyRead : Registers → ModifyRead → Registers
+withModifyRead r v = regs (r .page) (r .column) (r .«start_line») (r .contrast) (r .resistor) (r .power) (r .bias) (r .adc) (r .shl) (r .reverse) (r .entire) (r .on) (r .indicator) (r .«indicator_value») (r .holder) (r .«pin_low») v (r .awaited)
+
+abbrev pub withAwaited : Registers → Awaited → Registers
+withAwaited r v = regs (r .page) (r .column) (r .«start_line») (r .contrast) (r .resistor) (r .power) (r .bias) (r .adc) (r .shl) (r .reverse) (r .entire) (r .on) (r .indicator) (r .«indicator_value») (r .holder) (r .«pin_low») (r .«modify_read») v
+
+-- ---- start values
+
+-- 0 and off, except contrast 32 and the resistor as the chip has it; with the holder and the pin as given
+abbrev pub start : Numbers → ℕ → Bool → Registers
+start k holder low = regs 0 (column 0) 0 32 (k .resistor) 0 false false false false false false false 0 holder low Off Nothing
+
+-- power-up: pin low then high, holder 0
+pub record PoweredUp (k : Numbers) (r : Registers) : Type 0 where
+  pub tells : r ≡ withPinLow (start k 0 true) false
+
+-- ---- ranges
+
+-- the saved column, 0 where there is none
+abbrev pub savedOf : ModifyRead → ℕ
+savedOf Off = 0
+savedOf (On c) = c .0
+
+-- a register is outside its range: page 0..15; column, saved or not, what the counter holds; start line and contrast 0..63;
+-- resistor and power 0..7; indicator value 0..3. A register of 0 or 1 and the holder never are
+unfoldable pub outside : Numbers → Registers → Bool
+outside k r =
+    ltb 15 (r .page) || leb (k .highs * 16) (r .column .0) || ltb 63 (r .«start_line») || ltb 63 (r .contrast)
+    || ltb 7 (r .resistor) || ltb 7 (r .power) || ltb 3 (r .«indicator_value») || leb (k .highs * 16) (savedOf (r .«modify_read»))
+
+-- the same, range by range
+pub record Ranged (k : Numbers) (r : Registers) : Type 0 where
+  pub page : r .page < 16
+  pub column : r .column .0 < k .highs * 16
+  pub start-line : r .«start_line» < 64
+  pub contrast : r .contrast < 64
+  pub resistor : r .resistor < 8
+  pub power : r .power < 8
+  pub indicator-value : r .«indicator_value» < 4
+  pub saved : savedOf (r .«modify_read») < k .highs * 16

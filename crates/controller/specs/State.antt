@@ -1,0 +1,70 @@
+-- The chip as a whole, registers and memory, and what a list of cycles does to it.
+-- Assumes nothing.
+use Prim.Native.Nat.{ℕ, _*_}
+use mathlib.Core.Path.{_≡_}
+use mathlib.Core.Bool.{false}
+use mathlib.Core.Option.{Option, none, some}
+use mathlib.Core.List.{List}
+use lib.ListN.{length}
+use Rattle.instructions.specs.declared.numbers.Numbers.{Numbers}
+use Rattle.instructions.specs.declared.instruction.Awaited.the-variants.{Nothing}
+use Rattle.controller.specs.Registers.{column, withPage, withColumn, withHolder, withContrast, withIndicator, withIndicatorValue, withAwaited, outside}
+use Rattle.controller.specs.Cycle.{Outcome, answer, memoryAfter}
+use Rattle.controller.specs.Run.{BusCycle, runBy, numbersBy}
+use Rattle.controller.specs.declared.registers.Registers.{Registers}
+
+pub record State : Type 0 where
+  pub registers : Registers
+  pub memory : List ℕ
+
+abbrev pub state : Registers → List ℕ → State
+state r m = record { registers = r; memory = m }
+
+-- the registers after an answer: where it gives none they stay
+abbrev pub afterBy : Registers → Option Registers → Registers
+afterBy r (some n) = n
+afterBy r none = r
+
+-- one cycle: a refused one changes nothing
+abbrev pub step : Numbers → State → BusCycle → State
+step k s x = state
+    (afterBy (s .registers) (answer k (s .registers) (s .memory) (x .0) (x .1) .registers))
+    (memoryAfter k (s .registers) (s .memory) (x .0) (x .1))
+
+-- the number that a cycle is refused with, 0 for none
+abbrev pub number : Numbers → State → BusCycle → ℕ
+number k s x = answer k (s .registers) (s .memory) (x .0) (x .1) .number
+
+-- a list of cycles, and the number that each of them is refused with
+abbrev pub run : Numbers → State → List BusCycle → State
+run k s xs = runBy (step k) s xs
+
+abbrev pub numbers : Numbers → State → List BusCycle → List ℕ
+numbers k s xs = numbersBy (step k) (number k) s xs
+
+-- ---- demand 3's premises
+
+-- the reset pin high and all else unknown: memory of nine pages, registers in range
+pub record Restartable (k : Numbers) (s : State) : Type 0 where
+  pub long : length (s .memory) ≡ 9 * k .width
+  pub ranged : outside k (s .registers) ≡ false
+  pub high : s .registers .«pin_low» ≡ false
+
+-- the reset pin high and no second byte awaited
+pub record Ready (k : Numbers) (s : State) : Type 0 where
+  pub restartable : Restartable k s
+  pub quiet : s .registers .awaited ≡ Nothing
+
+-- ---- what streams move
+
+-- page, column and holder as given, all else as in r
+abbrev pub placed : Registers → ℕ → ℕ → ℕ → Registers
+placed r p c h = withHolder (withColumn (withPage r p) (column c)) h
+
+-- the registers without what an update moves
+abbrev pub rest : Registers → Registers
+rest r = placed r 0 0 0
+
+-- the registers without what a redraw moves
+abbrev pub settings : Registers → Registers
+settings r = withAwaited (withIndicatorValue (withIndicator (withContrast (rest r) 0) false) 0) Nothing

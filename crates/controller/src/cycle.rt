@@ -1,0 +1,159 @@
+// One cycle on the bus.
+ghost use mathlib.Core.Path.{_≡_};
+ghost use mathlib.Core.Bool.{cond};
+ghost use Prim.Native.Nat.{_*_, _≤_};
+ghost use lib.ListN.{length};
+ghost use Rattle.instructions.specs.Numbers.{Sensible, numbers0713};
+ghost use Rattle.instructions.specs.Read.{readOf};
+ghost use Rattle.controller.specs.Cycle.{status, malformed, heldLow, refusal, written, afterRead, instructed, carried, kept, outcome, Cycled};
+use crate::execute::execute;
+use crate::memory::advance;
+use crate::memory::load;
+use crate::memory::store;
+use crate::registers::Column;
+use crate::registers::ModifyRead;
+use crate::registers::Registers;
+use crate::registers::outside_range;
+use crate::setters::with_column;
+use crate::setters::with_holder;
+use crate::setters::with_pin_low;
+use crate::start::started;
+use instructions::numbers::Numbers;
+use instructions::numbers::ks0713;
+use instructions::read::Reading;
+use instructions::read::read_for;
+use instructions::refusal::OUT_OF_RANGE;
+use instructions::refusal::PIN_LOW;
+use instructions::refusal::WRONG_CYCLE;
+use instructions::refusal::WRONG_SIZE;
+
+// What a cycle answers: registers after it, the status byte, the byte read and the registers after it, or a refusal's number.
+pub enum Answer {
+    Done(Registers),
+    Status(u8),
+    Read(u8, Registers),
+    Refused(u8),
+}
+
+fn choose(test: bool, yes: u8, no: u8) -> u8
+    ensures { λ r. ⌜ r ≡ cond test yes no ⌝ }
+{
+    if test { yes } else { no }
+}
+
+fn status_of(registers: Registers) -> u8
+    ensures { λ b. ⌜ b ≡ status registers ⌝ }
+{
+    choose(registers.adc, 0, 64) + choose(registers.on, 0, 32) + choose(registers.pin_low, 16, 0)
+}
+
+// After a data write: the byte is in the holder, and the column has advanced.
+fn after_write(width: usize, registers: Registers, byte: u8) -> Registers
+    requires { ⌜ width ≤ 255 ⌝ }
+    ensures { λ n. ⌜ n ≡ written width registers byte ⌝ }
+{
+    let column = Column(advance(width, registers.column.0));
+    with_holder(with_column(registers, column), byte)
+}
+
+// After a data read that loaded the byte: the column has advanced unless modify-read is on.
+fn after_read(width: usize, registers: Registers, mode: ModifyRead, byte: u8) -> Registers
+    requires { ⌜ width ≤ 255 ⌝ }
+    ensures { λ n. ⌜ n ≡ afterRead width registers mode byte ⌝ }
+{
+    match mode {
+        ModifyRead::Off => after_write(width, registers, byte),
+        ModifyRead::On(_) => with_holder(registers, byte),
+    }
+}
+
+fn instruct(chip: Numbers, registers: Registers, byte: u8) -> Answer
+    ensures { λ a. ⌜ outcome a ≡ instructed registers (readOf chip (registers .awaited) byte) ⌝ }
+{
+    let awaited = registers.awaited;
+    match read_for(chip, awaited, byte) {
+        Reading::ReadAs(instruction) => Answer::Done(execute(registers, instruction)),
+        Reading::Unread(number) => Answer::Refused(number),
+    }
+}
+
+// Whether a kind and a value make no cycle.
+pub fn not_a_cycle(kind: u8, value: u8) -> bool
+    ensures { λ b. ⌜ b ≡ malformed kind value ⌝ }
+{
+    (5 < kind) | ((1 < kind) & (0 < value))
+}
+
+// The number that a cycle is refused with before its instruction is looked at, 0 for none.
+fn refusal_of(chip: Numbers, len: usize, registers: Registers, kind: u8, value: u8) -> u8
+    requires { ⌜ Sensible chip ⌝ }
+    ensures { λ n. ⌜ n ≡ refusal chip len registers kind value ⌝ }
+{
+    if len != 9 * chip.width {
+        return WRONG_SIZE;
+    }
+    if outside_range(chip, registers) {
+        return OUT_OF_RANGE;
+    }
+    if not_a_cycle(kind, value) {
+        return WRONG_CYCLE;
+    }
+    let held = registers.pin_low & ((kind < 2) | (kind == 3));
+    if held {
+        return PIN_LOW;
+    }
+    0
+}
+
+// A cycle that is not refused so.
+fn carry_out(chip: Numbers, registers: Registers, memory: &mut [u8], kind: u8, value: u8) -> Answer
+    requires { ⌜ Sensible chip × (length (now memory) ≡ 9 * chip .width) ⌝ }
+    ensures { λ a. ⌜ (outcome a ≡ carried chip registers (now (memory .entry)) kind value) × (now (memory .exit) ≡ kept (chip .width) registers (now (memory .entry)) kind value) ⌝ }
+{
+    let width = chip.width;
+    if kind == 0 {
+        return instruct(chip, registers, value);
+    }
+    if kind == 1 {
+        store(
+            width,
+            &mut *memory,
+            registers.page,
+            registers.column.0,
+            value,
+        );
+        return Answer::Done(after_write(width, registers, value));
+    }
+    if kind == 2 {
+        return Answer::Status(status_of(registers));
+    }
+    if kind == 3 {
+        let byte = load(width, &*memory, registers.page, registers.column.0);
+        let mode = registers.modify_read;
+        return Answer::Read(registers.holder, after_read(width, registers, mode, byte));
+    }
+    if kind == 4 {
+        return Answer::Done(started(chip, registers.holder, true));
+    }
+    Answer::Done(with_pin_low(registers, false))
+}
+
+// One cycle of any chip.
+fn cycle_for(chip: Numbers, registers: Registers, memory: &mut [u8], kind: u8, value: u8) -> Answer
+    requires { ⌜ Sensible chip ⌝ }
+    ensures { λ a. ⌜ Cycled chip registers (now (memory .entry)) kind value a (now (memory .exit)) ⌝ }
+{
+    let number = refusal_of(chip, memory.len(), registers, kind, value);
+    if number != 0 {
+        return Answer::Refused(number);
+    }
+    carry_out(chip, registers, memory, kind, value)
+}
+
+// Plays one bus cycle on the KS0713. Answers the registers after it, and for a read the byte; refuses with 1, 2, 9, 3 or 4,
+// tested in this order. A refusal leaves the memory as it was.
+pub fn cycle(registers: Registers, memory: &mut [u8], kind: u8, value: u8) -> Answer
+    ensures { λ a. ⌜ Cycled numbers0713 registers (now (memory .entry)) kind value a (now (memory .exit)) ⌝ }
+{
+    cycle_for(ks0713(), registers, memory, kind, value)
+}

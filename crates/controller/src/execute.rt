@@ -1,0 +1,106 @@
+// What an instruction does to the registers.
+ghost use mathlib.Core.Path.{_≡_};
+ghost use Rattle.controller.specs.Execute.{saved, restored, reset, lowSet, highSet, executed};
+use crate::registers::Column;
+use crate::registers::ModifyRead;
+use crate::registers::Registers;
+use crate::setters::with_adc;
+use crate::setters::with_awaited;
+use crate::setters::with_bias;
+use crate::setters::with_column;
+use crate::setters::with_contrast;
+use crate::setters::with_entire;
+use crate::setters::with_indicator;
+use crate::setters::with_indicator_value;
+use crate::setters::with_modify_read;
+use crate::setters::with_on;
+use crate::setters::with_page;
+use crate::setters::with_power;
+use crate::setters::with_resistor;
+use crate::setters::with_reverse;
+use crate::setters::with_shl;
+use crate::setters::with_start_line;
+use instructions::instruction::Awaited;
+use instructions::instruction::Instruction;
+
+// E0: the column is saved, unless one is.
+fn save(registers: Registers, mode: ModifyRead) -> Registers
+    ensures { λ n. ⌜ n ≡ saved registers mode ⌝ }
+{
+    match mode {
+        ModifyRead::Off => {
+            let column = registers.column;
+            with_modify_read(registers, ModifyRead::On(column))
+        }
+        ModifyRead::On(_) => registers,
+    }
+}
+
+// EE: the saved column comes back, where there is one.
+fn restore(registers: Registers, mode: ModifyRead) -> Registers
+    ensures { λ n. ⌜ n ≡ restored registers mode ⌝ }
+{
+    match mode {
+        ModifyRead::Off => registers,
+        ModifyRead::On(column) => {
+            with_modify_read(with_column(registers, column), ModifyRead::Off)
+        }
+    }
+}
+
+// E2: start line, column, page and SHL to 0, nothing else.
+fn reset_four(registers: Registers) -> Registers
+    ensures { λ n. ⌜ n ≡ reset registers ⌝ }
+{
+    let lines = with_start_line(registers, 0);
+    let columns = with_column(lines, Column(0));
+    with_shl(with_page(columns, 0), false)
+}
+
+// The low and the high four bits of the column, the other four as they stand.
+fn column_low(registers: Registers, low: u8) -> Registers
+    ensures { λ n. ⌜ n ≡ lowSet registers low ⌝ }
+{
+    with_column(registers, Column(registers.column.0 / 16 * 16 + low % 16))
+}
+
+fn column_high(registers: Registers, high: u8) -> Registers
+    ensures { λ n. ⌜ n ≡ highSet registers high ⌝ }
+{
+    with_column(registers, Column(high % 16 * 16 + registers.column.0 % 16))
+}
+
+pub(crate) fn execute(registers: Registers, instruction: Instruction) -> Registers
+    ensures { λ n. ⌜ n ≡ executed registers instruction ⌝ }
+{
+    let mode = registers.modify_read;
+    match instruction {
+        Instruction::ColumnLow(v) => column_low(registers, v),
+        Instruction::ColumnHigh(v) => column_high(registers, v),
+        Instruction::Resistor(v) => with_resistor(registers, v),
+        Instruction::Power(v) => with_power(registers, v),
+        Instruction::StartLine(v) => with_start_line(registers, v),
+        Instruction::ContrastNext => with_awaited(registers, Awaited::Contrast),
+        Instruction::ContrastValue(v) => {
+            with_awaited(with_contrast(registers, v), Awaited::Nothing)
+        }
+        Instruction::Adc(f) => with_adc(registers, f),
+        Instruction::Bias(f) => with_bias(registers, f),
+        Instruction::Entire(f) => with_entire(registers, f),
+        Instruction::Reverse(f) => with_reverse(registers, f),
+        Instruction::IndicatorOff => with_indicator(registers, false),
+        Instruction::IndicatorOn => {
+            with_awaited(with_indicator(registers, true), Awaited::Indicator)
+        }
+        Instruction::IndicatorValue(v) => {
+            with_awaited(with_indicator_value(registers, v), Awaited::Nothing)
+        }
+        Instruction::Display(f) => with_on(registers, f),
+        Instruction::Page(v) => with_page(registers, v),
+        Instruction::Shl(f) => with_shl(registers, f),
+        Instruction::ModifyReadOn => save(registers, mode),
+        Instruction::ModifyReadOff => restore(registers, mode),
+        Instruction::Reset => reset_four(registers),
+        Instruction::Nop => registers,
+    }
+}

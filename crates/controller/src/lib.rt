@@ -1,0 +1,7 @@
+// The controller seen from its bus: registers, display memory and one cycle.
+pub mod cycle;
+mod execute;
+mod memory;
+pub mod registers;
+mod setters;
+pub mod start;

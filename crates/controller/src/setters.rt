@@ -1,0 +1,190 @@
+// The registers with one of them set anew, a function for each.
+ghost use mathlib.Core.Path.{_≡_};
+ghost use Rattle.controller.specs.Registers.{withPage, withColumn, withStartLine, withContrast, withResistor, withPower, withBias, withAdc, withShl, withReverse, withEntire, withOn, withIndicator, withIndicatorValue, withHolder, withPinLow, withModifyRead, withAwaited};
+use crate::registers::Column;
+use crate::registers::ModifyRead;
+use crate::registers::Registers;
+use instructions::instruction::Awaited;
+
+pub(crate) fn with_page(registers: Registers, page: u8) -> Registers
+    ensures { λ n. ⌜ n ≡ withPage registers page ⌝ }
+{
+    let mut next = registers;
+    next.page = page;
+    next
+}
+
+pub(crate) fn with_column(registers: Registers, column: Column) -> Registers
+    ensures { λ n. ⌜ n ≡ withColumn registers column ⌝ }
+{
+    let mut next = registers;
+    next.column = column;
+    next
+}
+
+pub(crate) fn with_start_line(registers: Registers, start_line: u8) -> Registers
+    ensures { λ n. ⌜ n ≡ withStartLine registers «start_line» ⌝ }
+{
+    let mut next = registers;
+    next.start_line = start_line;
+    next
+}
+
+pub(crate) fn with_contrast(registers: Registers, contrast: u8) -> Registers
+    ensures { λ n. ⌜ n ≡ withContrast registers contrast ⌝ }
+{
+    let mut next = registers;
+    next.contrast = contrast;
+    next
+}
+
+pub(crate) fn with_resistor(registers: Registers, resistor: u8) -> Registers
+    ensures { λ n. ⌜ n ≡ withResistor registers resistor ⌝ }
+{
+    let mut next = registers;
+    next.resistor = resistor;
+    next
+}
+
+pub(crate) fn with_power(registers: Registers, power: u8) -> Registers
+    ensures { λ n. ⌜ n ≡ withPower registers power ⌝ }
+{
+    let mut next = registers;
+    next.power = power;
+    next
+}
+
+pub(crate) fn with_bias(registers: Registers, bias: bool) -> Registers
+    ensures { λ n. ⌜ n ≡ withBias registers bias ⌝ }
+{
+    let mut next = registers;
+    next.bias = bias;
+    next
+}
+
+pub(crate) fn with_adc(registers: Registers, adc: bool) -> Registers
+    ensures { λ n. ⌜ n ≡ withAdc registers adc ⌝ }
+{
+    let mut next = registers;
+    next.adc = adc;
+    next
+}
+
+pub(crate) fn with_shl(registers: Registers, shl: bool) -> Registers
+    ensures { λ n. ⌜ n ≡ withShl registers shl ⌝ }
+{
+    let mut next = registers;
+    next.shl = shl;
+    next
+}
+
+pub(crate) fn with_reverse(registers: Registers, reverse: bool) -> Registers
+    ensures { λ n. ⌜ n ≡ withReverse registers reverse ⌝ }
+{
+    let mut next = registers;
+    next.reverse = reverse;
+    next
+}
+
+pub(crate) fn with_entire(registers: Registers, entire: bool) -> Registers
+    ensures { λ n. ⌜ n ≡ withEntire registers entire ⌝ }
+{
+    let mut next = registers;
+    next.entire = entire;
+    next
+}
+
+pub(crate) fn with_on(registers: Registers, on: bool) -> Registers
+    ensures { λ n. ⌜ n ≡ withOn registers on ⌝ }
+{
+    let mut next = registers;
+    next.on = on;
+    next
+}
+
+pub(crate) fn with_indicator(registers: Registers, indicator: bool) -> Registers
+    ensures { λ n. ⌜ n ≡ withIndicator registers indicator ⌝ }
+{
+    let mut next = registers;
+    next.indicator = indicator;
+    next
+}
+
+pub(crate) fn with_indicator_value(registers: Registers, indicator_value: u8) -> Registers
+    ensures { λ n. ⌜ n ≡ withIndicatorValue registers «indicator_value» ⌝ }
+{
+    let mut next = registers;
+    next.indicator_value = indicator_value;
+    next
+}
+
+pub(crate) fn with_holder(registers: Registers, holder: u8) -> Registers
+    ensures { λ n. ⌜ n ≡ withHolder registers holder ⌝ }
+{
+    let mut next = registers;
+    next.holder = holder;
+    next
+}
+
+pub(crate) fn with_pin_low(registers: Registers, pin_low: bool) -> Registers
+    ensures { λ n. ⌜ n ≡ withPinLow registers «pin_low» ⌝ }
+{
+    let mut next = registers;
+    next.pin_low = pin_low;
+    next
+}
+
+// A field that is an enum is not stored to: the struct is written anew.
+pub(crate) fn with_awaited(registers: Registers, awaited: Awaited) -> Registers
+    ensures { λ n. ⌜ n ≡ withAwaited registers awaited ⌝ }
+{
+    let modify_read = registers.modify_read;
+    let column = registers.column;
+    Registers {
+        page: registers.page,
+        column,
+        start_line: registers.start_line,
+        contrast: registers.contrast,
+        resistor: registers.resistor,
+        power: registers.power,
+        bias: registers.bias,
+        adc: registers.adc,
+        shl: registers.shl,
+        reverse: registers.reverse,
+        entire: registers.entire,
+        on: registers.on,
+        indicator: registers.indicator,
+        indicator_value: registers.indicator_value,
+        holder: registers.holder,
+        pin_low: registers.pin_low,
+        modify_read,
+        awaited,
+    }
+}
+
+pub(crate) fn with_modify_read(registers: Registers, mode: ModifyRead) -> Registers
+    ensures { λ n. ⌜ n ≡ withModifyRead registers mode ⌝ }
+{
+    let awaited = registers.awaited;
+    let column = registers.column;
+    Registers {
+        page: registers.page,
+        column,
+        start_line: registers.start_line,
+        contrast: registers.contrast,
+        resistor: registers.resistor,
+        power: registers.power,
+        bias: registers.bias,
+        adc: registers.adc,
+        shl: registers.shl,
+        reverse: registers.reverse,
+        entire: registers.entire,
+        on: registers.on,
+        indicator: registers.indicator,
+        indicator_value: registers.indicator_value,
+        holder: registers.holder,
+        pin_low: registers.pin_low,
+        modify_read: mode,
+        awaited,
+    }
+}

@@ -1,0 +1,43 @@
+// The start values, and the registers at power-up.
+ghost use mathlib.Core.Path.{_≡_};
+ghost use Rattle.instructions.specs.Numbers.{numbers0713};
+ghost use Rattle.controller.specs.Registers.{start, PoweredUp};
+use crate::registers::Column;
+use crate::registers::ModifyRead;
+use crate::registers::Registers;
+use instructions::instruction::Awaited;
+use instructions::numbers::Numbers;
+use instructions::numbers::ks0713;
+
+// Every register at its start value, with the holder and the pin as given.
+pub(crate) fn started(chip: Numbers, holder: u8, low: bool) -> Registers
+    ensures { λ r. ⌜ r ≡ start chip holder low ⌝ }
+{
+    Registers {
+        page: 0,
+        column: Column(0),
+        start_line: 0,
+        contrast: 32,
+        resistor: chip.resistor,
+        power: 0,
+        bias: false,
+        adc: false,
+        shl: false,
+        reverse: false,
+        entire: false,
+        on: false,
+        indicator: false,
+        indicator_value: 0,
+        holder,
+        pin_low: low,
+        modify_read: ModifyRead::Off,
+        awaited: Awaited::Nothing,
+    }
+}
+
+// The KS0713's registers at power-up: pin low then high, holder 0.
+pub fn power_up() -> Registers
+    ensures { λ r. ⌜ PoweredUp numbers0713 r ⌝ }
+{
+    started(ks0713(), 0, false)
+}

@@ -1,0 +1,151 @@
+-- The reader is pinned by the writer. At each of the 256 bytes, by computing: what is read is written again as that byte with its
+-- free bits 0, and a byte is read where it is with its free bits 0; the round trip of the writer gives the rest.
+-- Assumes nothing.
+use Prim.Native.Nat.{ℕ, zero, suc, _+_, _%_, _<_}
+use mathlib.Core.Path.{_≡_, _∙_, refl, ap, sym, subst}
+use mathlib.Core.Bool.{Bool, true, false, cond, _&&_}
+use mathlib.Core.Option.{Option, none, some}
+use native.Mathlib.Omega.{arith}
+use lib.Dec.{T, eqb, eqb→eq}
+use Rattle.instructions.specs.Refusal.{unassigned}
+use Rattle.instructions.specs.Told.{Told, given, refused}
+use Rattle.instructions.specs.Numbers.{Sensible, numbers0713}
+use Rattle.instructions.specs.Write.{fieldOf, flagOf, writeOf}
+use Rattle.instructions.specs.Read.{classOf, roomIn, readBy, readFirst, readOf, assigned, plain, again, awaitedFor}
+use Rattle.instructions.specs.declared.numbers.Numbers.{Numbers}
+use Rattle.instructions.specs.declared.instruction.Awaited.{Awaited}
+use Rattle.instructions.specs.declared.instruction.Awaited.the-variants as awaited
+use Rattle.instructions.specs.declared.instruction.Instruction.{Instruction}
+use Rattle.instructions.proofs.Every.{every, at, left, right}
+use Rattle.instructions.proofs.Sensible.{sensible0713}
+use Rattle.instructions.proofs.Fields.{field-given}
+use Rattle.instructions.proofs.ReadBack.{read-back}
+
+-- ---- equality of what is told, as a test
+
+unfoldable pub sameByte : Option ℕ → Option ℕ → Bool
+sameByte none none = true
+sameByte none (some b) = false
+sameByte (some a) none = false
+sameByte (some a) (some b) = eqb a b
+
+unfoldable pub same : Told ℕ → Told ℕ → Bool
+same s t = eqb (s .number) (t .number) && sameByte (s .value) (t .value)
+
+is-same-byte : (x y : Option ℕ) → T (sameByte x y) → x ≡ y
+unfolding sameByte
+is-same-byte none none t = refl
+is-same-byte none (some b) t = absurd t
+is-same-byte (some a) none t = absurd t
+is-same-byte (some a) (some b) t = ap some (eqb→eq a b t)
+
+-- what is told, from its two parts
+pub told-is : {A : Type 0} (t : Told A) {n : ℕ} {v : Option A} → t .number ≡ n → t .value ≡ v → t ≡ record { number = n; value = v }
+told-is t {n} e f = ap (λ (x : ℕ). record { number = x; value = t .value }) e ∙ ap (λ x. record { number = n; value = x }) f
+
+is-same : (s t : Told ℕ) → T (same s t) → s ≡ t
+unfolding same
+is-same s t h =
+    told-is s (eqb→eq (s .number) (t .number) (left (eqb (s .number) (t .number)) (sameByte (s .value) (t .value)) h))
+    (is-same-byte (s .value) (t .value) (right (eqb (s .number) (t .number)) (sameByte (s .value) (t .value)) h))
+
+-- ---- each assigned byte, read and written again, is itself with its free bits zero; any other is refused with 4
+
+first : Numbers → ℕ → Bool
+first k b = same (again k (readFirst k b)) (cond (assigned b) (given (plain k b)) (refused unassigned))
+
+pub first-again : (b : ℕ) → b < 256 → again numbers0713 (readOf numbers0713 awaited.Nothing b) ≡ cond (assigned b) (given (plain numbers0713 b)) (refused unassigned)
+unfolding first same sameByte readFirst readBy classOf roomIn fieldOf flagOf assigned plain
+first-again b h = is-same _ _ (at (first numbers0713) 256 tt b h)
+
+-- an awaited second byte, whatever its value: its free bits are those above its field
+pub contrast-again : (k : Numbers) (b : ℕ) → again k (readOf k awaited.Contrast b) ≡ given (b % 64)
+contrast-again k b = field-given 0x00 64 (b % 64) (omega arith) ∙ ap given (omega arith)
+
+pub indicator-again : (k : Numbers) (b : ℕ) → again k (readOf k awaited.Indicator b) ≡ given (b % 4)
+indicator-again k b = field-given 0x00 4 (b % 4) (omega arith) ∙ ap given (omega arith)
+
+-- ---- these are 161 bytes
+
+abbrev pub howMany : (ℕ → Bool) → ℕ → ℕ
+howMany f zero = 0
+howMany f (suc n) = cond (f n) 1 0 + howMany f n
+
+pub assigned-161 : howMany assigned 256 ≡ 161
+unfolding assigned classOf
+assigned-161 = refl
+
+-- ---- with nothing awaited a byte is read as i exactly if i is no second byte and is written as that byte with its free bits 0
+
+unfoldable pub nothing : Awaited → Bool
+nothing awaited.Nothing = true
+nothing awaited.Contrast = false
+nothing awaited.Indicator = false
+
+is-nothing : (a : Awaited) → T (nothing a) → a ≡ awaited.Nothing
+unfolding nothing
+is-nothing awaited.Nothing t = refl
+is-nothing awaited.Contrast t = absurd t
+is-nothing awaited.Indicator t = absurd t
+
+unfoldable pub whole : Option Instruction → Bool
+whole (some i) = true
+whole none = false
+
+-- what is read of byte b is written as b with its free bits 0, is no second byte, and is not refused
+abbrev pub agreesBy : Numbers → ℕ → ℕ → Option Instruction → Bool
+agreesBy k b n (some i) = same (writeOf k i) (given (plain k b)) && (nothing (awaitedFor i) && eqb n 0)
+agreesBy k b n none = true
+
+abbrev pub agrees : Numbers → ℕ → Told Instruction → Bool
+agrees k b t = agreesBy k b (t .number) (t .value)
+
+unfoldable pub bothOrNone : Bool → Bool → Bool
+bothOrNone true b = b
+bothOrNone false true = false
+bothOrNone false false = true
+
+is-both : (a b : Bool) → T (bothOrNone a b) → a ≡ b
+unfolding bothOrNone
+is-both true true t = refl
+is-both true false t = absurd t
+is-both false true t = absurd t
+is-both false false t = refl
+
+abbrev pub agree : Numbers → ℕ → Bool
+agree k b = agrees k b (readFirst k b) && bothOrNone (whole (readFirst k b .value)) (whole (readFirst k (plain k b) .value))
+
+module _ (k : Numbers) (g : Sensible k) (all : T (every (agree k) 0 256)) (b : ℕ) (h : b < 256) where
+  pub read-is : (i : Instruction) → readOf k awaited.Nothing b ≡ given i → (awaitedFor i ≡ awaited.Nothing) × (writeOf k i ≡ given (plain k b))
+  read-is i e =
+      let w = same (writeOf k i) (given (plain k b)) in
+      let t : T (agrees k b (given i)) = subst (λ x. T (agrees k b x)) e (left (agrees k b (readFirst k b)) _ (at (agree k) 256 all b h)) in (
+        is-nothing (awaitedFor i) (left (nothing (awaitedFor i)) (eqb 0 0) (right w (nothing (awaitedFor i) && eqb 0 0) t)),
+        is-same (writeOf k i) (given (plain k b)) (left w (nothing (awaitedFor i) && eqb 0 0) t),
+      )
+
+  there : (i : Instruction) → awaitedFor i ≡ awaited.Nothing → writeOf k i ≡ given (plain k b) → readFirst k (plain k b) ≡ given i
+  there i c e = subst (λ a. readOf k a (plain k b) ≡ given i) c (read-back k g i (plain k b) e)
+
+  -- a byte is read where it is read with its free bits 0
+  read-there : (x : Option Instruction) → readFirst k b .value ≡ x → (i : Instruction) → readFirst k (plain k b) ≡ given i → readFirst k b ≡ given i
+  unfolding whole
+  read-there (some j) e i f =
+      let t : T (agreesBy k b (readFirst k b .number) (some j)) = subst (λ x. T (agreesBy k b (readFirst k b .number) x)) e (left (agrees k b (readFirst k b)) _ (at (agree k) 256 all b h)) in
+      let n : readFirst k b .number ≡ 0 = eqb→eq (readFirst k b .number) 0 (right (nothing (awaitedFor j)) (eqb (readFirst k b .number) 0) (right (same (writeOf k j) (given (plain k b))) _ t)) in
+      let m : readFirst k b ≡ given j = told-is (readFirst k b) n e in
+      let p = read-is j m in
+      m ∙ sym (there j (p .0) (p .1)) ∙ f
+  read-there none e i f =
+      let q = is-both (whole (readFirst k b .value)) (whole (readFirst k (plain k b) .value)) (right (agrees k b (readFirst k b)) _ (at (agree k) 256 all b h)) in
+      let z : false ≡ true = sym (ap whole e) ∙ q ∙ ap (λ t. whole (t .value)) f in
+      absurd (subst T (sym z) tt)
+
+  pub is-read : (i : Instruction) → (awaitedFor i ≡ awaited.Nothing) × (writeOf k i ≡ given (plain k b)) → readOf k awaited.Nothing b ≡ given i
+  is-read i p = read-there (readFirst k b .value) refl i (there i (p .0) (p .1))
+
+pub pinned : (b : ℕ) → b < 256 → (i : Instruction)
+    → (readOf numbers0713 awaited.Nothing b ≡ given i → (awaitedFor i ≡ awaited.Nothing) × (writeOf numbers0713 i ≡ given (plain numbers0713 b)))
+    × ((awaitedFor i ≡ awaited.Nothing) × (writeOf numbers0713 i ≡ given (plain numbers0713 b)) → readOf numbers0713 awaited.Nothing b ≡ given i)
+unfolding nothing whole bothOrNone same sameByte readFirst readBy classOf roomIn fieldOf flagOf plain
+pinned b h i = (read-is numbers0713 sensible0713 tt b h i, is-read numbers0713 sensible0713 tt b h i)

@@ -1,0 +1,140 @@
+-- What reader and writer promise fixes their answers: what is told of an answer tells all answers apart, since it has an inverse.
+-- And each number is given exactly when its line of document 01's table holds.
+-- Assumes nothing.
+use Prim.Native.Nat.{ℕ, _+_, _≤_, _<_}
+use mathlib.Core.Path.{_≡_, _∙_, refl, ap, sym}
+use mathlib.Core.Logic.{_≢_}
+use mathlib.Core.Bool.{Bool, true, false, cond, not, _&&_}
+use mathlib.Core.Option.{Option, none, some}
+use native.Mathlib.Omega.{arith}
+use lib.Dec.{T, ltb, eqb, eqb→eq}
+use Rattle.instructions.specs.Refusal.{unassigned, outsideField}
+use Rattle.instructions.specs.Told.{Told, given, refused}
+use Rattle.instructions.specs.Write.{fieldOf, flagOf, writeOf, toldWriting, IsWritten}
+use Rattle.instructions.specs.Read.{classOf, readBy, readFirst, readOf, toldReading, assigned, IsRead}
+use Rattle.instructions.specs.declared.numbers.Numbers.{Numbers}
+use Rattle.instructions.specs.declared.instruction.Awaited.{Awaited}
+use Rattle.instructions.specs.declared.instruction.Awaited.the-variants as awaited
+use Rattle.instructions.specs.declared.instruction.Instruction.{Instruction}
+use Rattle.instructions.specs.declared.instruction.Instruction.the-variants.{ColumnLow, ColumnHigh, Resistor, Power, StartLine, ContrastNext, ContrastValue, Adc, Bias, Entire, Reverse, IndicatorOff, IndicatorOn, IndicatorValue, Display, Page, Shl, ModifyReadOn, ModifyReadOff, Reset, Nop}
+use Rattle.instructions.specs.declared.read.Reading.{Reading}
+use Rattle.instructions.specs.declared.read.Reading.the-variants.{ReadAs, Unread}
+use Rattle.instructions.specs.declared.write.Writing.{Writing}
+use Rattle.instructions.specs.declared.write.Writing.the-variants.{WrittenAs, Unwritten}
+use Rattle.instructions.proofs.Every.{at, left, right}
+use Rattle.instructions.proofs.Pinned.{told-is, whole}
+
+-- ---- the reader
+
+readingBy : ℕ → Option Instruction → Reading
+readingBy n (some i) = ReadAs i
+readingBy n none = Unread n
+
+reading-back : (r : Reading) → readingBy (toldReading r .number) (toldReading r .value) ≡ r
+unfolding readingBy
+reading-back (ReadAs i) = refl
+reading-back (Unread n) = refl
+
+-- readings that are told alike are equal
+pub reading-told : (r s : Reading) → toldReading r ≡ toldReading s → r ≡ s
+reading-told r s e = sym (reading-back r) ∙ ap (λ t. readingBy (t .number) (t .value)) e ∙ reading-back s
+
+-- two readings that the promise admits are equal
+pub read-one : {k : Numbers} {a : Awaited} {b : ℕ} {r s : Reading} → IsRead k a b r → IsRead k a b s → r ≡ s
+read-one {r = r} {s = s} f g = reading-told r s (f .tells ∙ sym (g .tells))
+
+-- ---- the writer
+
+writingBy : ℕ → Option ℕ → Writing
+writingBy n (some b) = WrittenAs b
+writingBy n none = Unwritten n
+
+writing-back : (w : Writing) → writingBy (toldWriting w .number) (toldWriting w .value) ≡ w
+unfolding writingBy
+writing-back (WrittenAs b) = refl
+writing-back (Unwritten n) = refl
+
+pub writing-told : (w v : Writing) → toldWriting w ≡ toldWriting v → w ≡ v
+writing-told w v e = sym (writing-back w) ∙ ap (λ t. writingBy (t .number) (t .value)) e ∙ writing-back v
+
+pub written-one : {k : Numbers} {i : Instruction} {w v : Writing} → IsWritten k i w → IsWritten k i v → w ≡ v
+written-one {w = w} {v = v} f g = writing-told w v (f .tells ∙ sym (g .tells))
+
+-- ---- number 4: an instruction byte unassigned and nothing awaited, and only then
+
+unfoldable pub refusedSo : Numbers → ℕ → Bool
+refusedSo k b = cond (whole (readFirst k b .value)) (assigned b) (not (assigned b) && eqb (readFirst k b .number) unassigned)
+
+is-not : (b : Bool) → T (not b) → b ≡ false
+is-not true t = absurd t
+is-not false t = refl
+
+refused-so : (k : Numbers) (b : ℕ) → b < 256 → T (refusedSo k b)
+unfolding refusedSo whole readFirst readBy classOf assigned
+refused-so k b h = at (refusedSo k) 256 tt b h
+
+not-assigned : (k : Numbers) (b : ℕ) → T (refusedSo k b) → readFirst k b .value ≡ none → (assigned b ≡ false) × (readFirst k b .number ≡ unassigned)
+unfolding refusedSo whole
+not-assigned k b t e =
+    let u : T (not (assigned b) && eqb (readFirst k b .number) unassigned) = rw e at t in
+    (is-not (assigned b) (left (not (assigned b)) _ u), eqb→eq (readFirst k b .number) unassigned (right (not (assigned b)) _ u))
+
+pub unread-4 : (k : Numbers) (a : Awaited) (b n : ℕ) → b < 256 → IsRead k a b (Unread n) → (n ≡ unassigned) × (a ≡ awaited.Nothing) × (assigned b ≡ false)
+unread-4 k awaited.Nothing b n h f =
+    let p = not-assigned k b (refused-so k b h) (sym (ap (λ t. t .value) (f .tells))) in
+    (ap (λ t. t .number) (f .tells) ∙ p .1, refl, p .0)
+unread-4 k awaited.Contrast b n h f = absurd (let e = ap (λ t. t .value) (f .tells) in let z : _≡_ {A = ℕ} 0 1 = cc in omega arith)
+unread-4 k awaited.Indicator b n h f = absurd (let e = ap (λ t. t .value) (f .tells) in let z : _≡_ {A = ℕ} 0 1 = cc in omega arith)
+
+module _ (k : Numbers) (b : ℕ) (h : b < 256) (e : assigned b ≡ false) where
+  by-value : (x : Option Instruction) → readFirst k b .value ≡ x → readFirst k b ≡ refused unassigned
+  unfolding refusedSo whole
+  by-value none f = told-is (readFirst k b) (not-assigned k b (refused-so k b h) f .1) f
+  by-value (some i) f = absurd (rw e at (rw f at (refused-so k b h)))
+
+  pub unassigned-4 : readOf k awaited.Nothing b ≡ refused unassigned
+  unassigned-4 = by-value (readFirst k b .value) refl
+
+-- ---- number 6: a value to write outside its field, and only then
+
+in-or-6 : (t : Bool) (x n : ℕ) → refused n ≡ cond t (given x) (refused outsideField) → n ≡ outsideField
+in-or-6 true x n e = absurd (let f = ap (λ t. t .value) e in let z : _≡_ {A = ℕ} 0 1 = cc in omega arith)
+in-or-6 false x n e = ap (λ t. t .number) e
+
+field-not : (base count v n : ℕ) → refused n ≡ fieldOf base count v → n ≡ outsideField
+unfolding fieldOf
+field-not base count v n e = in-or-6 (ltb v count) (base + v) n e
+
+given-not : {x n : ℕ} → refused n ≡ given x → n ≡ outsideField
+given-not e = absurd (let f = ap (λ t. t .value) e in let z : _≡_ {A = ℕ} 0 1 = cc in omega arith)
+
+flag-not : (off on : ℕ) (f : Bool) (n : ℕ) → refused n ≡ flagOf off on f → n ≡ outsideField
+unfolding flagOf
+flag-not off on true n e = given-not e
+flag-not off on false n e = given-not e
+
+refused-6 : (k : Numbers) (i : Instruction) (n : ℕ) → refused n ≡ writeOf k i → n ≡ outsideField
+refused-6 k (ColumnLow v) n e = field-not 0x00 16 v n e
+refused-6 k (ColumnHigh v) n e = field-not 0x10 (k .highs) v n e
+refused-6 k (Resistor v) n e = field-not 0x20 8 v n e
+refused-6 k (Power v) n e = field-not 0x28 8 v n e
+refused-6 k (StartLine v) n e = field-not 0x40 64 v n e
+refused-6 k ContrastNext n e = given-not e
+refused-6 k (ContrastValue v) n e = field-not 0x00 64 v n e
+refused-6 k (Adc f) n e = flag-not 0xa0 0xa1 f n e
+refused-6 k (Bias f) n e = flag-not 0xa2 0xa3 f n e
+refused-6 k (Entire f) n e = flag-not 0xa4 0xa5 f n e
+refused-6 k (Reverse f) n e = flag-not 0xa6 0xa7 f n e
+refused-6 k IndicatorOff n e = given-not e
+refused-6 k IndicatorOn n e = given-not e
+refused-6 k (IndicatorValue v) n e = field-not 0x00 4 v n e
+refused-6 k (Display f) n e = flag-not 0xae 0xaf f n e
+refused-6 k (Page v) n e = field-not 0xb0 16 v n e
+refused-6 k (Shl f) n e = flag-not 0xc0 0xc8 f n e
+refused-6 k ModifyReadOn n e = given-not e
+refused-6 k ModifyReadOff n e = given-not e
+refused-6 k Reset n e = given-not e
+refused-6 k Nop n e = given-not e
+
+pub unwritten-6 : (k : Numbers) (i : Instruction) (n : ℕ) → IsWritten k i (Unwritten n) → n ≡ outsideField
+unwritten-6 k i n f = refused-6 k i n (f .tells)

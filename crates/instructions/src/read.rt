@@ -1,0 +1,99 @@
+// The reader: one byte, with what is awaited.
+ghost use mathlib.Core.Path.{_≡_};
+ghost use Rattle.instructions.specs.Numbers.{numbers0713};
+ghost use Rattle.instructions.specs.Read.{classOf, roomIn, readBy, readOf, toldReading, IsRead};
+use crate::instruction::Awaited;
+use crate::instruction::Instruction;
+use crate::numbers::Numbers;
+use crate::numbers::ks0713;
+use crate::refusal::UNASSIGNED;
+
+// What a byte is read as, or the number of the refusal.
+pub enum Reading {
+    ReadAs(Instruction),
+    Unread(u8),
+}
+
+// The class of a byte, by the ranges of the table: its row, or 0 where the byte is unassigned.
+fn class_of(byte: u8) -> u8
+    ensures { λ r. ⌜ r ≡ classOf byte ⌝ }
+{
+    match byte {
+        0x00..=0x0f => 1,
+        0x10..=0x1f => 2,
+        0x20..=0x27 => 3,
+        0x28..=0x2f => 4,
+        0x40..=0x7f => 5,
+        0x81 => 6,
+        0xa0..=0xa1 => 7,
+        0xa2..=0xa3 => 8,
+        0xa4..=0xa5 => 9,
+        0xa6..=0xa7 => 10,
+        0xac => 11,
+        0xad => 12,
+        0xae..=0xaf => 13,
+        0xb0..=0xbf => 14,
+        0xc0..=0xcf => 15,
+        0xe0 => 16,
+        0xee => 17,
+        0xe2 => 18,
+        0xe3 => 19,
+        _ => 0,
+    }
+}
+
+// The high part of a column, less the bit that the counter has no room for.
+fn room_in(highs: u8, high: u8) -> u8
+    ensures { λ r. ⌜ r ≡ roomIn highs high ⌝ }
+{
+    if high < highs { high } else { high - highs }
+}
+
+// What a byte of a class is read as.
+fn read_by(chip: Numbers, class: u8, byte: u8) -> Reading
+    ensures { λ r. ⌜ toldReading r ≡ readBy chip class byte ⌝ }
+{
+    match class {
+        1 => Reading::ReadAs(Instruction::ColumnLow(byte % 16)),
+        2 => Reading::ReadAs(Instruction::ColumnHigh(room_in(chip.highs, byte % 16))),
+        3 => Reading::ReadAs(Instruction::Resistor(byte % 8)),
+        4 => Reading::ReadAs(Instruction::Power(byte % 8)),
+        5 => Reading::ReadAs(Instruction::StartLine(byte % 64)),
+        6 => Reading::ReadAs(Instruction::ContrastNext),
+        7 => Reading::ReadAs(Instruction::Adc(byte % 2 == 1)),
+        8 => Reading::ReadAs(Instruction::Bias(byte % 2 == 1)),
+        9 => Reading::ReadAs(Instruction::Entire(byte % 2 == 1)),
+        10 => Reading::ReadAs(Instruction::Reverse(byte % 2 == 1)),
+        11 => Reading::ReadAs(Instruction::IndicatorOff),
+        12 => Reading::ReadAs(Instruction::IndicatorOn),
+        13 => Reading::ReadAs(Instruction::Display(byte % 2 == 1)),
+        14 => Reading::ReadAs(Instruction::Page(byte % 16)),
+        15 => Reading::ReadAs(Instruction::Shl(8 <= byte % 16)),
+        16 => Reading::ReadAs(Instruction::ModifyReadOn),
+        17 => Reading::ReadAs(Instruction::ModifyReadOff),
+        18 => Reading::ReadAs(Instruction::Reset),
+        19 => Reading::ReadAs(Instruction::Nop),
+        _ => Reading::Unread(UNASSIGNED),
+    }
+}
+
+// Reads one byte, for any chip's numbers. A second byte is taken whatever its value.
+pub fn read_for(chip: Numbers, awaited: Awaited, byte: u8) -> Reading
+    ensures { λ r. ⌜ IsRead chip awaited byte r ⌝ }
+{
+    match awaited {
+        Awaited::Nothing => {
+            let class = class_of(byte);
+            read_by(chip, class, byte)
+        }
+        Awaited::Contrast => Reading::ReadAs(Instruction::ContrastValue(byte % 64)),
+        Awaited::Indicator => Reading::ReadAs(Instruction::IndicatorValue(byte % 4)),
+    }
+}
+
+// Reads one byte of the KS0713, with what is awaited. Refuses with 4.
+pub fn read_instruction(awaited: Awaited, byte: u8) -> Reading
+    ensures { λ r. ⌜ IsRead numbers0713 awaited byte r ⌝ }
+{
+    read_for(ks0713(), awaited, byte)
+}

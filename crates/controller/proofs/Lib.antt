@@ -1,2 +1,6 @@
 pub mod Cells
 pub mod Ranges
+pub mod Acting
+pub mod Chips
+pub mod Unique
+pub mod Readers

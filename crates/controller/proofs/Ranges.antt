@@ -1,20 +1,38 @@
--- Ranges.
+-- Every cycle keeps the registers in range, the memory's length, and, pin cycles aside, the pin.
 -- Assumes nothing.
-use Prim.Native.Nat.{ℕ, _*_, _≤_, _<_}
-use mathlib.Core.Path.{_≡_, refl}
-use mathlib.Core.Bool.{Bool, true, false, cond, not}
+use Prim.Native.Nat.{ℕ, _+_, _*_, _%_, _≤_, _<_}
+use mathlib.Core.Path.{_≡_, _∙_, refl, ap, sym, subst}
+use mathlib.Core.Bool.{Bool, true, false, cond, not, _||_}
+use mathlib.Core.Option.{Option, none, some}
+use mathlib.Core.List.{List}
 use native.Mathlib.Omega.{arith}
-use lib.Dec.{eqb}
-use borrow.Author.Tests.{eqb-true}
+use lib.ListN.{length}
+use lib.Dec.{T, ltb, leb, eqb}
+use borrow.Author.Tests.{le-ltb, lt-leb, ltb-true, ltb-false, leb-false, eqb-true}
 use Rattle.instructions.specs.Refusal.{wrongSize}
+use Rattle.instructions.specs.Told.{Told}
+use Rattle.instructions.specs.Numbers.{Sensible}
+use Rattle.instructions.specs.Read.{readOf}
 use Rattle.instructions.specs.declared.numbers.Numbers.{Numbers}
-use Rattle.controller.specs.Cycle.{refusal}
+use Rattle.instructions.specs.declared.instruction.Instruction.{Instruction}
+use Rattle.instructions.specs.declared.instruction.Instruction.the-variants.{ColumnLow, ColumnHigh, Resistor, Power, StartLine, ContrastNext, ContrastValue, Adc, Bias, Entire, Reverse, IndicatorOff, IndicatorOn, IndicatorValue, Display, Page, Shl, ModifyReadOn, ModifyReadOff, Reset, Nop}
+use Rattle.instructions.proofs.Fields.{in-field}
+use Rattle.instructions.proofs.Fits.{either, Fits, FitsIf, read-fits-if}
+use Rattle.controller.specs.Registers.{outside, savedOf, Ranged}
+use Rattle.controller.specs.Execute.{saved, restored, executed}
+use Rattle.controller.specs.Memory.{advanced}
+use Rattle.controller.specs.Cycle.{Outcome, written, afterRead, instructedBy, carried, kept, refusal, answer, memoryAfter}
+use Rattle.controller.specs.State.{afterBy}
+use Rattle.controller.specs.declared.registers.ModifyRead.{ModifyRead}
+use Rattle.controller.specs.declared.registers.ModifyRead.the-variants.{Off, On}
 use Rattle.controller.specs.declared.registers.Registers.{Registers}
+use Rattle.controller.proofs.Cells.{stored-length}
+
+-- ---- bounds that the code asks for
 
 -- what bounds both bounds the one that is chosen
 pub cond-le : (b : Bool) (x y n : ℕ) → x ≤ n → y ≤ n → cond b x y ≤ n
-cond-le true x y n p q = p
-cond-le false x y n p q = q
+cond-le b x y n p q = either (λ (z : ℕ). z ≤ n) b p q
 
 passed : (b : Bool) (x : ℕ) → cond (not b) wrongSize x ≡ 0 → b ≡ true
 passed true x e = refl
@@ -24,3 +42,159 @@ passed false x e = absurd (let z : _≡_ {A = ℕ} 1 0 = e in omega arith)
 pub long : (k : Numbers) (n : ℕ) (r : Registers) (kind value : ℕ) → refusal k n r kind value ≡ 0 → n ≡ 9 * k .width
 unfolding refusal
 long k n r kind value e = eqb-true n (9 * k .width) (passed (eqb n (9 * k .width)) _ e)
+
+-- ---- in range, as one test and range by range
+
+-- eight tests of which none holds
+none-of : (a b c d e f g h : Bool) → a || b || c || d || e || f || g || h ≡ false
+    → (a ≡ false) × (b ≡ false) × (c ≡ false) × (d ≡ false) × (e ≡ false) × (f ≡ false) × (g ≡ false) × (h ≡ false)
+none-of false false false false false false false false p = (refl, refl, refl, refl, refl, refl, refl, refl)
+none-of true b c d e f g h p = absurd (subst T p tt)
+none-of false true c d e f g h p = absurd (subst T p tt)
+none-of false false true d e f g h p = absurd (subst T p tt)
+none-of false false false true e f g h p = absurd (subst T p tt)
+none-of false false false false true f g h p = absurd (subst T p tt)
+none-of false false false false false true g h p = absurd (subst T p tt)
+none-of false false false false false false true h p = absurd (subst T p tt)
+none-of false false false false false false false true p = absurd (subst T p tt)
+
+pub ranged : (k : Numbers) (r : Registers) → Ranged k r → outside k r ≡ false
+unfolding outside
+ranged k r g =
+    simp (
+      le-ltb 15 (r .page) (omega arith),
+      lt-leb (k .highs * 16) (r .column .0) (omega arith),
+      le-ltb 63 (r .«start_line») (omega arith),
+      le-ltb 63 (r .contrast) (omega arith),
+      le-ltb 7 (r .resistor) (omega arith),
+      le-ltb 7 (r .power) (omega arith),
+      le-ltb 3 (r .«indicator_value») (omega arith),
+      lt-leb (k .highs * 16) (savedOf (r .«modify_read»)) (omega arith),
+    )
+
+pub ranges : (k : Numbers) (r : Registers) → outside k r ≡ false → Ranged k r
+unfolding outside
+ranges k r e =
+    let f = none-of (ltb 15 (r .page)) (leb (k .highs * 16) (r .column .0)) (ltb 63 (r .«start_line»)) (ltb 63 (r .contrast)) (ltb 7 (r .resistor)) (ltb 7 (r .power)) (ltb 3 (r .«indicator_value»)) (leb (k .highs * 16) (savedOf (r .«modify_read»))) e in
+    record {
+      page = omega (arith, ltb-false 15 (r .page) (f .0));
+      column = omega (arith, leb-false (k .highs * 16) (r .column .0) (f .1));
+      start-line = omega (arith, ltb-false 63 (r .«start_line») (f .2));
+      contrast = omega (arith, ltb-false 63 (r .contrast) (f .3));
+      resistor = omega (arith, ltb-false 7 (r .resistor) (f .4));
+      power = omega (arith, ltb-false 7 (r .power) (f .5));
+      indicator-value = omega (arith, ltb-false 3 (r .«indicator_value») (f .6));
+      saved = omega (arith, leb-false (k .highs * 16) (savedOf (r .«modify_read»)) (f .7));
+    }
+
+-- ---- an instruction inside its fields
+
+saved-ranged : (k : Numbers) (r : Registers) (m : ModifyRead) → Ranged k r → Ranged k (saved r m)
+saved-ranged k r Off h = omega arith
+saved-ranged k r (On c) h = h
+
+restored-ranged : (k : Numbers) (r : Registers) (m : ModifyRead) → savedOf m < k .highs * 16 → Ranged k r → Ranged k (restored r m)
+restored-ranged k r Off l h = h
+restored-ranged k r (On c) l h = omega arith
+
+pub executed-ranged : (k : Numbers) → Sensible k → (r : Registers) (i : Instruction) → Fits k i → Ranged k r → Ranged k (executed r i)
+executed-ranged k g r (ColumnLow v) f h = omega arith
+executed-ranged k g r (ColumnHigh v) f h = omega (arith, in-field 0x10 (k .highs) v f)
+executed-ranged k g r (Resistor v) f h = omega (arith, in-field 0x20 8 v f)
+executed-ranged k g r (Power v) f h = omega (arith, in-field 0x28 8 v f)
+executed-ranged k g r (StartLine v) f h = omega (arith, in-field 0x40 64 v f)
+executed-ranged k g r ContrastNext f h = omega arith
+executed-ranged k g r (ContrastValue v) f h = omega (arith, in-field 0x00 64 v f)
+executed-ranged k g r (Adc x) f h = omega arith
+executed-ranged k g r (Bias x) f h = omega arith
+executed-ranged k g r (Entire x) f h = omega arith
+executed-ranged k g r (Reverse x) f h = omega arith
+executed-ranged k g r IndicatorOff f h = omega arith
+executed-ranged k g r IndicatorOn f h = omega arith
+executed-ranged k g r (IndicatorValue v) f h = omega (arith, in-field 0x00 4 v f)
+executed-ranged k g r (Display x) f h = omega arith
+executed-ranged k g r (Page v) f h = omega (arith, in-field 0xb0 16 v f)
+executed-ranged k g r (Shl x) f h = omega arith
+executed-ranged k g r ModifyReadOn f h = saved-ranged k r (r .«modify_read») h
+executed-ranged k g r ModifyReadOff f h = restored-ranged k r (r .«modify_read») (h .saved) h
+executed-ranged k g r Reset f h = omega (arith, g .high)
+executed-ranged k g r Nop f h = h
+
+saved-pin : (r : Registers) (m : ModifyRead) → saved r m .«pin_low» ≡ r .«pin_low»
+saved-pin r Off = refl
+saved-pin r (On c) = refl
+
+restored-pin : (r : Registers) (m : ModifyRead) → restored r m .«pin_low» ≡ r .«pin_low»
+restored-pin r Off = refl
+restored-pin r (On c) = refl
+
+-- no instruction moves the pin
+pub executed-pin : (r : Registers) (i : Instruction) → executed r i .«pin_low» ≡ r .«pin_low»
+executed-pin r (ColumnLow v) = refl
+executed-pin r (ColumnHigh v) = refl
+executed-pin r (Resistor v) = refl
+executed-pin r (Power v) = refl
+executed-pin r (StartLine v) = refl
+executed-pin r ContrastNext = refl
+executed-pin r (ContrastValue v) = refl
+executed-pin r (Adc x) = refl
+executed-pin r (Bias x) = refl
+executed-pin r (Entire x) = refl
+executed-pin r (Reverse x) = refl
+executed-pin r IndicatorOff = refl
+executed-pin r IndicatorOn = refl
+executed-pin r (IndicatorValue v) = refl
+executed-pin r (Display x) = refl
+executed-pin r (Page v) = refl
+executed-pin r (Shl x) = refl
+executed-pin r ModifyReadOn = saved-pin r (r .«modify_read»)
+executed-pin r ModifyReadOff = restored-pin r (r .«modify_read»)
+executed-pin r Reset = refl
+executed-pin r Nop = refl
+
+-- ---- a whole cycle
+
+instructed-ranged : (k : Numbers) → Sensible k → (r : Registers) (n : ℕ) (x : Option Instruction) → FitsIf k x → Ranged k r
+    → Ranged k (afterBy r (instructedBy r n x .registers))
+instructed-ranged k g r n (some i) f h = executed-ranged k g r i f h
+instructed-ranged k g r n none f h = h
+
+advanced-by : (w c d : ℕ) (t : Bool) → ltb c w ≡ t → w < d → c < d → cond t (c + 1) c < d
+advanced-by w c d true e l h = omega (arith, ltb-true c w e)
+advanced-by w c d false e l h = h
+
+-- the column stays below any bound above the width
+pub advanced-in : (w c d : ℕ) → w < d → c < d → advanced w c < d
+unfolding advanced
+advanced-in w c d l h = advanced-by w c d (ltb c w) refl l h
+
+written-ranged : (k : Numbers) → Sensible k → (r : Registers) (b : ℕ) → Ranged k r → Ranged k (written (k .width) r b)
+unfolding written
+written-ranged k g r b h = omega (arith, advanced-in (k .width) (r .column .0) (k .highs * 16) (g .wide) (h .column))
+
+read-ranged : (k : Numbers) → Sensible k → (r : Registers) (m : ModifyRead) (b : ℕ) → Ranged k r → Ranged k (afterRead (k .width) r m b)
+read-ranged k g r Off b h = written-ranged k g r b h
+read-ranged k g r (On c) b h = omega arith
+
+-- a cycle leaves the registers in range, so that number 2 is never given to a run that starts in range
+pub stays-ranged : (k : Numbers) → Sensible k → (r : Registers) (m : List ℕ) (kind value : ℕ) → Ranged k r
+    → Ranged k (afterBy r (answer k r m kind value .registers))
+unfolding answer carried
+stays-ranged k g r m kind value h =
+    let P : Outcome → Type 0 = λ o. Ranged k (afterBy r (o .registers)) in
+    either P (eqb (refusal k (length m) r kind value) 0)
+    (either P (eqb kind 0) (instructed-ranged k g r _ (readOf k (r .awaited) value .value) (read-fits-if k g (r .awaited) value) h)
+    (either P (eqb kind 1) (written-ranged k g r value h)
+    (either P (eqb kind 2) h
+    (either P (eqb kind 3) (read-ranged k g r (r .«modify_read») _ h)
+    (either P (eqb kind 4) (omega (arith, g .wide, g .first)) (omega arith))))))
+    h
+
+-- and the memory as long as it was
+pub stays-long : (k : Numbers) (r : Registers) (m : List ℕ) (kind value : ℕ) → length (memoryAfter k r m kind value) ≡ length m
+unfolding memoryAfter kept
+stays-long k r m kind value =
+    let P : List ℕ → Type 0 = λ l. length l ≡ length m in
+    either P (eqb (refusal k (length m) r kind value) 0)
+    (either P (eqb kind 1) (stored-length (k .width) m (r .page) (r .column .0) value) refl)
+    refl

@@ -7,9 +7,9 @@ use mathlib.Core.Option.{Option, none, some}
 use mathlib.Core.List.{List}
 use lib.ListN.{length}
 use lib.Dec.{ltb, eqb}
-use Rattle.instructions.specs.Refusal.{wrongSize, outOfRange, pinLow, wrongCycle}
+use Rattle.instructions.specs.Refusal.{wrongSize, outOfRange, pinLow, unassigned, wrongCycle}
 use Rattle.instructions.specs.Told.{Told}
-use Rattle.instructions.specs.Read.{readOf}
+use Rattle.instructions.specs.Read.{readOf, assigned, nothingAwaited}
 use Rattle.instructions.specs.declared.numbers.Numbers.{Numbers}
 use Rattle.instructions.specs.declared.instruction.Instruction.{Instruction}
 use Rattle.controller.specs.Registers.{column, withColumn, withHolder, withPinLow, start, outside}
@@ -102,6 +102,20 @@ refusal k n r kind value =
     (cond (malformed kind value) wrongCycle
     (cond (heldLow r kind) pinLow
     0)))
+
+-- an instruction byte unassigned and nothing awaited
+unfoldable pub unread : Registers → ℕ → ℕ → Bool
+unread r kind value = eqb kind 0 && (nothingAwaited (r .awaited) && not (assigned value))
+
+-- the number that a cycle is refused with, 0 for none: 1, 2, 9, 3, 4 in this order. `proofs/Unique.antt` shows that `answer` has it
+unfoldable pub cycleNumber : Numbers → ℕ → Registers → ℕ → ℕ → ℕ
+cycleNumber k n r kind value =
+    cond (not (eqb n (9 * k .width))) wrongSize
+    (cond (outside k r) outOfRange
+    (cond (malformed kind value) wrongCycle
+    (cond (heldLow r kind) pinLow
+    (cond (unread r kind value) unassigned
+    0))))
 
 -- ---- the whole cycle
 

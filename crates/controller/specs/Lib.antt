@@ -4,4 +4,5 @@ pub mod Memory
 pub mod Cycle
 pub mod Run
 pub mod State
+pub mod ReadBack
 pub mod Chip

@@ -6,3 +6,4 @@ pub mod Fields
 pub mod ReadBack
 pub mod Pinned
 pub mod Unique
+pub mod Fits

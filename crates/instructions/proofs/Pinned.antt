@@ -11,7 +11,7 @@ use Rattle.instructions.specs.Refusal.{unassigned}
 use Rattle.instructions.specs.Told.{Told, given, refused}
 use Rattle.instructions.specs.Numbers.{Sensible, numbers0713}
 use Rattle.instructions.specs.Write.{fieldOf, flagOf, writeOf}
-use Rattle.instructions.specs.Read.{classOf, roomIn, readBy, readFirst, readOf, assigned, plain, again, awaitedFor}
+use Rattle.instructions.specs.Read.{classOf, roomIn, readBy, readFirst, readOf, assigned, plain, again, nothingAwaited, awaitedFor}
 use Rattle.instructions.specs.declared.numbers.Numbers.{Numbers}
 use Rattle.instructions.specs.declared.instruction.Awaited.{Awaited}
 use Rattle.instructions.specs.declared.instruction.Awaited.the-variants as awaited
@@ -77,13 +77,7 @@ assigned-161 = refl
 
 -- ---- with nothing awaited a byte is read as i exactly if i is no second byte and is written as that byte with its free bits 0
 
-unfoldable pub nothing : Awaited → Bool
-nothing awaited.Nothing = true
-nothing awaited.Contrast = false
-nothing awaited.Indicator = false
-
-is-nothing : (a : Awaited) → T (nothing a) → a ≡ awaited.Nothing
-unfolding nothing
+is-nothing : (a : Awaited) → T (nothingAwaited a) → a ≡ awaited.Nothing
 is-nothing awaited.Nothing t = refl
 is-nothing awaited.Contrast t = absurd t
 is-nothing awaited.Indicator t = absurd t
@@ -94,7 +88,7 @@ whole none = false
 
 -- what is read of byte b is written as b with its free bits 0, is no second byte, and is not refused
 abbrev pub agreesBy : Numbers → ℕ → ℕ → Option Instruction → Bool
-agreesBy k b n (some i) = same (writeOf k i) (given (plain k b)) && (nothing (awaitedFor i) && eqb n 0)
+agreesBy k b n (some i) = same (writeOf k i) (given (plain k b)) && (nothingAwaited (awaitedFor i) && eqb n 0)
 agreesBy k b n none = true
 
 abbrev pub agrees : Numbers → ℕ → Told Instruction → Bool
@@ -120,8 +114,8 @@ module _ (k : Numbers) (g : Sensible k) (all : T (every (agree k) 0 256)) (b : �
   read-is i e =
       let w = same (writeOf k i) (given (plain k b)) in
       let t : T (agrees k b (given i)) = subst (λ x. T (agrees k b x)) e (left (agrees k b (readFirst k b)) _ (at (agree k) 256 all b h)) in (
-        is-nothing (awaitedFor i) (left (nothing (awaitedFor i)) (eqb 0 0) (right w (nothing (awaitedFor i) && eqb 0 0) t)),
-        is-same (writeOf k i) (given (plain k b)) (left w (nothing (awaitedFor i) && eqb 0 0) t),
+        is-nothing (awaitedFor i) (left (nothingAwaited (awaitedFor i)) (eqb 0 0) (right w (nothingAwaited (awaitedFor i) && eqb 0 0) t)),
+        is-same (writeOf k i) (given (plain k b)) (left w (nothingAwaited (awaitedFor i) && eqb 0 0) t),
       )
 
   there : (i : Instruction) → awaitedFor i ≡ awaited.Nothing → writeOf k i ≡ given (plain k b) → readFirst k (plain k b) ≡ given i
@@ -132,7 +126,7 @@ module _ (k : Numbers) (g : Sensible k) (all : T (every (agree k) 0 256)) (b : �
   unfolding whole
   read-there (some j) e i f =
       let t : T (agreesBy k b (readFirst k b .number) (some j)) = subst (λ x. T (agreesBy k b (readFirst k b .number) x)) e (left (agrees k b (readFirst k b)) _ (at (agree k) 256 all b h)) in
-      let n : readFirst k b .number ≡ 0 = eqb→eq (readFirst k b .number) 0 (right (nothing (awaitedFor j)) (eqb (readFirst k b .number) 0) (right (same (writeOf k j) (given (plain k b))) _ t)) in
+      let n : readFirst k b .number ≡ 0 = eqb→eq (readFirst k b .number) 0 (right (nothingAwaited (awaitedFor j)) (eqb (readFirst k b .number) 0) (right (same (writeOf k j) (given (plain k b))) _ t)) in
       let m : readFirst k b ≡ given j = told-is (readFirst k b) n e in
       let p = read-is j m in
       m ∙ sym (there j (p .0) (p .1)) ∙ f
@@ -147,5 +141,5 @@ module _ (k : Numbers) (g : Sensible k) (all : T (every (agree k) 0 256)) (b : �
 pub pinned : (b : ℕ) → b < 256 → (i : Instruction)
     → (readOf numbers0713 awaited.Nothing b ≡ given i → (awaitedFor i ≡ awaited.Nothing) × (writeOf numbers0713 i ≡ given (plain numbers0713 b)))
     × ((awaitedFor i ≡ awaited.Nothing) × (writeOf numbers0713 i ≡ given (plain numbers0713 b)) → readOf numbers0713 awaited.Nothing b ≡ given i)
-unfolding nothing whole bothOrNone same sameByte readFirst readBy classOf roomIn fieldOf flagOf plain
+unfolding whole bothOrNone same sameByte readFirst readBy classOf roomIn fieldOf flagOf plain
 pinned b h i = (read-is numbers0713 sensible0713 tt b h i, is-read numbers0713 sensible0713 tt b h i)

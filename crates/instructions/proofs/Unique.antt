@@ -2,7 +2,7 @@
 -- And each number is given exactly when its line of document 01's table holds.
 -- Assumes nothing.
 use Prim.Native.Nat.{ℕ, _+_, _≤_, _<_}
-use mathlib.Core.Path.{_≡_, _∙_, refl, ap, sym}
+use mathlib.Core.Path.{_≡_, _∙_, refl, ap, sym, subst}
 use mathlib.Core.Logic.{_≢_}
 use mathlib.Core.Bool.{Bool, true, false, cond, not, _&&_}
 use mathlib.Core.Option.{Option, none, some}
@@ -65,35 +65,44 @@ written-one {w = w} {v = v} f g = writing-told w v (f .tells ∙ sym (g .tells))
 unfoldable pub refusedSo : Numbers → ℕ → Bool
 refusedSo k b = cond (whole (readFirst k b .value)) (assigned b) (not (assigned b) && eqb (readFirst k b .number) unassigned)
 
-is-not : (b : Bool) → T (not b) → b ≡ false
-is-not true t = absurd t
-is-not false t = refl
-
 refused-so : (k : Numbers) (b : ℕ) → b < 256 → T (refusedSo k b)
 unfolding refusedSo whole readFirst readBy classOf assigned
 refused-so k b h = at (refusedSo k) 256 tt b h
 
-not-assigned : (k : Numbers) (b : ℕ) → T (refusedSo k b) → readFirst k b .value ≡ none → (assigned b ≡ false) × (readFirst k b .number ≡ unassigned)
-unfolding refusedSo whole
-not-assigned k b t e =
-    let u : T (not (assigned b) && eqb (readFirst k b .number) unassigned) = rw e at t in
-    (is-not (assigned b) (left (not (assigned b)) _ u), eqb→eq (readFirst k b .number) unassigned (right (not (assigned b)) _ u))
+is-true : (b : Bool) → T b → b ≡ true
+is-true true t = refl
+is-true false t = absurd t
 
-pub unread-4 : (k : Numbers) (a : Awaited) (b n : ℕ) → b < 256 → IsRead k a b (Unread n) → (n ≡ unassigned) × (a ≡ awaited.Nothing) × (assigned b ≡ false)
-unread-4 k awaited.Nothing b n h f =
-    let p = not-assigned k b (refused-so k b h) (sym (ap (λ t. t .value) (f .tells))) in
-    (ap (λ t. t .number) (f .tells) ∙ p .1, refl, p .0)
-unread-4 k awaited.Contrast b n h f = absurd (let e = ap (λ t. t .value) (f .tells) in let z : _≡_ {A = ℕ} 0 1 = cc in omega arith)
-unread-4 k awaited.Indicator b n h f = absurd (let e = ap (λ t. t .value) (f .tells) in let z : _≡_ {A = ℕ} 0 1 = cc in omega arith)
+is-false : (b : Bool) → T (not b) → b ≡ false
+is-false true t = absurd t
+is-false false t = refl
 
-module _ (k : Numbers) (b : ℕ) (h : b < 256) (e : assigned b ≡ false) where
-  by-value : (x : Option Instruction) → readFirst k b .value ≡ x → readFirst k b ≡ refused unassigned
+module _ (k : Numbers) (b : ℕ) (h : b < 256) where
+  -- nothing awaited: a byte that is not read is unassigned, and refused with 4
+  pub read-none : readOf k awaited.Nothing b .value ≡ none → (assigned b ≡ false) × (readOf k awaited.Nothing b .number ≡ unassigned)
   unfolding refusedSo whole
-  by-value none f = told-is (readFirst k b) (not-assigned k b (refused-so k b h) f .1) f
-  by-value (some i) f = absurd (rw e at (rw f at (refused-so k b h)))
+  read-none e =
+      let t : T (not (assigned b) && eqb (readFirst k b .number) unassigned) = rw e at (refused-so k b h) in
+      (is-false (assigned b) (left (not (assigned b)) _ t), eqb→eq (readFirst k b .number) unassigned (right (not (assigned b)) _ t))
 
-  pub unassigned-4 : readOf k awaited.Nothing b ≡ refused unassigned
-  unassigned-4 = by-value (readFirst k b .value) refl
+  -- and one that is read is assigned
+  pub read-some : (i : Instruction) → readOf k awaited.Nothing b .value ≡ some i → assigned b ≡ true
+  unfolding refusedSo whole
+  read-some i e = is-true (assigned b) (rw e at (refused-so k b h))
+
+  pub unread-4 : (a : Awaited) (n : ℕ) → IsRead k a b (Unread n) → (n ≡ unassigned) × (a ≡ awaited.Nothing) × (assigned b ≡ false)
+  unread-4 awaited.Nothing n f =
+      let p = read-none (sym (ap (λ t. t .value) (f .tells))) in
+      (ap (λ t. t .number) (f .tells) ∙ p .1, refl, p .0)
+  unread-4 awaited.Contrast n f = absurd (let e = ap (λ t. t .value) (f .tells) in let z : _≡_ {A = ℕ} 0 1 = cc in omega arith)
+  unread-4 awaited.Indicator n f = absurd (let e = ap (λ t. t .value) (f .tells) in let z : _≡_ {A = ℕ} 0 1 = cc in omega arith)
+
+  by-value : assigned b ≡ false → (x : Option Instruction) → readOf k awaited.Nothing b .value ≡ x → readOf k awaited.Nothing b ≡ refused unassigned
+  by-value e none f = told-is (readFirst k b) (read-none f .1) f
+  by-value e (some i) f = absurd (subst T (sym (read-some i f) ∙ e) tt)
+
+  pub unassigned-4 : assigned b ≡ false → readOf k awaited.Nothing b ≡ refused unassigned
+  unassigned-4 e = by-value e (readFirst k b .value) refl
 
 -- ---- number 6: a value to write outside its field, and only then
 

@@ -3,10 +3,12 @@
 use Prim.Native.Nat.{ℕ, _*_, _≤_, _<_}
 use Rattle.instructions.specs.declared.numbers.Numbers.{Numbers}
 
--- the counter can stand behind the last column and is a byte, a row shows one of 64 lines, and the resistor starts in its range
+-- the counter can stand behind the last column, is a byte and leaves at most one bit of a high column byte free; a row shows one
+-- of 64 lines; the resistor starts in its range
 pub record Sensible (k : Numbers) : Type 0 where
   pub wide : k .width < k .highs * 16
   pub byte : k .highs ≤ 16
+  pub high : 8 ≤ k .highs
   pub lines : k .rows ≤ 64
   pub first : k .resistor < 8
 

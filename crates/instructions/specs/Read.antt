@@ -2,7 +2,7 @@
 -- Assumes nothing.
 use Prim.Native.Nat.{ℕ, _+_, _-_, _%_}
 use mathlib.Core.Path.{_≡_}
-use mathlib.Core.Bool.{Bool, cond, not, _&&_}
+use mathlib.Core.Bool.{Bool, true, false, cond, not, _&&_}
 use mathlib.Core.Option.{Option, none, some}
 use lib.Dec.{ltb, leb, eqb}
 use Rattle.instructions.specs.Refusal.{unassigned}
@@ -89,6 +89,12 @@ assigned b = not (eqb (classOf b) 0)
 -- an assigned byte with its free bits 0: bits 0 to 2 of C0-CF, and of 10-1F the bit that the counter has no room for
 unfoldable pub plain : Numbers → ℕ → ℕ
 plain k b = cond (within 0xc0 0xcf b) (b - b % 8) (cond (within 0x10 0x1f b) (0x10 + roomIn (k .highs) (b % 16)) b)
+
+-- no second byte is awaited
+abbrev pub nothingAwaited : Awaited → Bool
+nothingAwaited awaited.Nothing = true
+nothingAwaited awaited.Contrast = false
+nothingAwaited awaited.Indicator = false
 
 -- what was read, written again; a refusal stays
 abbrev pub writtenAgain : Numbers → Option Instruction → ℕ → Told ℕ

@@ -1,0 +1,180 @@
+-- The controller keeps the laws that layers above use, for any sensible numbers: a chip to update, and a chip to redraw. What ready
+-- and restartable mean of it is exactly what demand 3 supposes, by definition (specs/State.antt).
+-- Assumes nothing.
+use Prim.Native.Nat.{ℕ, suc, _+_, _*_, _/_, _%_, _≤_, _<_}
+use mathlib.Core.Path.{_≡_, _∙_, refl, ap, sym, subst}
+use mathlib.Core.Bool.{Bool, true, false, cond}
+use mathlib.Core.List.{List}
+use native.Mathlib.Omega.{arith}
+use native.Mathlib.Numerals.{add-one}
+use Rattle.instructions.specs.Told.{given}
+use Rattle.instructions.specs.Numbers.{Sensible, numbers0713}
+use Rattle.instructions.specs.Write.{writeOf}
+use Rattle.instructions.specs.Read.{readOf, awaitedFor}
+use Rattle.instructions.specs.declared.numbers.Numbers.{Numbers}
+use Rattle.instructions.specs.declared.instruction.Awaited.{Awaited}
+use Rattle.instructions.specs.declared.instruction.Awaited.the-variants as awaited
+use Rattle.instructions.specs.declared.instruction.Instruction.{Instruction}
+use Rattle.instructions.specs.declared.instruction.Instruction.the-variants.{ColumnLow, ColumnHigh, ContrastNext, ContrastValue, IndicatorOff, IndicatorValue, Page, Nop}
+use Rattle.instructions.proofs.Sensible.{sensible0713}
+use Rattle.instructions.proofs.Fields.{field-given}
+use Rattle.instructions.proofs.ReadBack.{read-back}
+use Rattle.controller.specs.Registers.{column, withContrast, withIndicator, withIndicatorValue, withAwaited}
+use Rattle.controller.specs.Execute.{executed}
+use Rattle.controller.specs.Memory.{advanced, stored}
+use Rattle.controller.specs.Cycle.{written}
+use Rattle.controller.specs.Run.{BusCycle}
+use Rattle.controller.specs.State.{State, state, step, number, Restartable, Ready, placed, rest, settings}
+use Rattle.controller.specs.Chip.{View, Chip, Restart, pageCycle, highCycle, lowCycle, dataCycle, nopCycle, offCycle, askCycle, contrastCycle, onPage, onColumn, withRest, wrote}
+use Rattle.controller.specs.declared.registers.Registers.{Registers}
+use Rattle.controller.proofs.Cells.{advanced-below}
+use Rattle.controller.proofs.Acting.{acts, writes}
+
+abbrev pub viewOf : State → View Registers
+viewOf s = record { page = s .registers .page; column = s .registers .column .0; holder = s .registers .holder; memory = s .memory; rest = rest (s .registers) }
+
+-- ---- one instruction byte, by what it is the byte of
+
+module _ (k : Numbers) (g : Sensible k) (s : State) where
+  -- accepted, ready stays, and the registers are as executed
+  abbrev pub Obeyed : Instruction → ℕ → Type 0
+  Obeyed i b = (number k s (0, b) ≡ 0) × (step k s (0, b) ≡ state (executed (s .registers) i) (s .memory)) × Restartable k (step k s (0, b))
+
+  -- where nothing is awaited
+  pub obeys : Ready k s → (i : Instruction) (b : ℕ) → awaitedFor i ≡ awaited.Nothing → writeOf k i ≡ given b → Obeyed i b
+  obeys h i b q e = acts k g s i b (h .restartable) (subst (λ a. readOf k a b ≡ given i) (q ∙ sym (h .quiet)) (read-back k g i b e))
+
+  -- a data write below the width
+  pub wrote-as : Ready k s → (b : ℕ) → s .registers .column .0 < k .width → viewOf (step k s (dataCycle b)) ≡ wrote (k .width) b (viewOf s)
+  unfolding written
+  wrote-as h b l =
+      let r = s .registers in
+      let m = stored (k .width) (s .memory) (r .page) (r .column .0) b in
+      ap viewOf (writes k g s b (h .restartable) .1)
+      ∙ ap (λ (c : ℕ). record { page = r .page; column = c; holder = b; memory = m; rest = rest r }) (advanced-below (k .width) (r .column .0) l ∙ add-one (r .column .0))
+
+  pub written-ready : Ready k s → (b : ℕ) → Ready k (step k s (dataCycle b))
+  unfolding written
+  written-ready h b =
+      let e = writes k g s b (h .restartable) in
+      record { restartable = e .2; quiet = ap (λ t. t .registers .awaited) (e .1) ∙ h .quiet }
+
+-- ready stays where the instruction leaves what is awaited
+pub still : (k : Numbers) (s : State) (i : Instruction) (b : ℕ) (g : Sensible k) → Obeyed k g s i b → executed (s .registers) i .awaited ≡ awaited.Nothing → Ready k (step k s (0, b))
+still k s i b g e q = record { restartable = e .2; quiet = ap (λ t. t .registers .awaited) (e .1) ∙ q }
+
+-- ---- a chip to update
+
+abbrev pub chipOf : (k : Numbers) → Sensible k → Chip (k .width)
+chipOf k g = record {
+  State = State;
+  Rest = Registers;
+  view = viewOf;
+  Ready = Ready k;
+  step = step k;
+  number = number k;
+  page-law = λ s p h l.
+      let e = obeys k g s h (Page p) (0xb0 + p) refl (field-given 0xb0 16 p (omega arith)) in
+      (e .0, still k s (Page p) (0xb0 + p) g e (h .quiet), ap viewOf (e .1));
+  high-law = λ s v h l.
+      let e = obeys k g s h (ColumnHigh v) (0x10 + v) refl (field-given 0x10 (k .highs) v (omega (arith, g .wide))) in
+      (e .0, still k s (ColumnHigh v) (0x10 + v) g e (h .quiet), ap viewOf (e .1) ∙ ap (λ (c : ℕ). onColumn c (viewOf s)) (omega (arith, g .wide, g .byte)));
+  low-law = λ s v h l.
+      let e = obeys k g s h (ColumnLow v) (0x00 + v) refl (field-given 0x00 16 v l) in
+      (e .0, still k s (ColumnLow v) (0x00 + v) g e (h .quiet), ap viewOf (e .1) ∙ ap (λ (c : ℕ). onColumn c (viewOf s)) (omega arith));
+  data-law = λ s b h l. (writes k g s b (h .restartable) .0, written-ready k g s h b, wrote-as k g s h b l);
+}
+
+-- ---- a chip to redraw
+
+-- the indicator's second byte is awaited
+abbrev pub pendingOf : Awaited → Bool
+pendingOf awaited.Nothing = false
+pendingOf awaited.Contrast = false
+pendingOf awaited.Indicator = true
+
+-- what E3 leaves, by what is awaited: it is spent as that
+module _ (k : Numbers) (g : Sensible k) (s : State) (h : Restartable k s) where
+  abbrev pub Spent : ℕ → Type 0
+  Spent v = (number k s nopCycle ≡ 0) × Ready k (step k s nopCycle)
+      × (withRest (rest (s .registers)) (viewOf (step k s nopCycle)) ≡ viewOf s)
+      × (settings (rest (step k s nopCycle .registers)) ≡ settings (rest (s .registers)))
+      × (step k s nopCycle .registers .«indicator_value» ≡ v)
+
+  spent-as : (i : Instruction) (v : ℕ) → readOf k (s .registers .awaited) 0xe3 ≡ given i
+      → (executed (s .registers) i .awaited ≡ awaited.Nothing)
+      × (withRest (rest (s .registers)) (viewOf (state (executed (s .registers) i) (s .memory))) ≡ viewOf s)
+      × (settings (rest (executed (s .registers) i)) ≡ settings (rest (s .registers)))
+      × (executed (s .registers) i .«indicator_value» ≡ v)
+      → Spent v
+  spent-as i v q f =
+      let e = acts k g s i 0xe3 h q in (
+        e .0,
+        record { restartable = e .2; quiet = ap (λ t. t .registers .awaited) (e .1) ∙ f .0 },
+        ap (λ t. withRest (rest (s .registers)) (viewOf t)) (e .1) ∙ f .1,
+        ap (λ t. settings (rest (t .registers))) (e .1) ∙ f .2,
+        ap (λ t. t .registers .«indicator_value») (e .1) ∙ f .3,
+      )
+
+  pub spent-by : (a : Awaited) → s .registers .awaited ≡ a → Spent (cond (pendingOf a) 3 (s .registers .«indicator_value»))
+  spent-by awaited.Nothing e = spent-as Nop _ (rw e (read-back k g Nop 0xe3 refl)) (e, refl, refl, refl)
+  spent-by awaited.Contrast e = spent-as (ContrastValue 35) _ (rw e refl) (refl, refl, refl, refl)
+  spent-by awaited.Indicator e = spent-as (IndicatorValue 3) _ (rw e refl) (refl, refl, refl, refl)
+
+abbrev pub restartOf : (k : Numbers) (g : Sensible k) → Restart (chipOf k g)
+restartOf k g = record {
+  Settings = Registers;
+  settings = settings;
+  contrast = λ r. r .contrast;
+  indicator = λ r. r .indicator;
+  value = λ r. r .«indicator_value»;
+  pending = λ r. pendingOf (r .awaited);
+  Restartable = Restartable k;
+  ready-restartable = λ s h. h .restartable;
+  nop-law = λ s h. spent-by k g s h (s .registers .awaited) refl;
+  off-law = λ s h.
+      let e = obeys k g s h IndicatorOff 0xac refl refl in (
+        e .0,
+        still k s IndicatorOff 0xac g e (h .quiet),
+        ap (λ t. withRest (rest (s .registers)) (viewOf t)) (e .1),
+        ap (λ t. settings (rest (t .registers))) (e .1),
+        ap (λ t. t .registers .«indicator_value») (e .1),
+        ap (λ t. t .registers .indicator) (e .1),
+      );
+  ask-law = λ s h.
+      let e = obeys k g s h ContrastNext 0x81 refl refl in
+      (e .0, e .2, ap (λ t. withRest (rest (s .registers)) (viewOf t)) (e .1));
+  contrast-law = λ s v h l.
+      let d = obeys k g s h ContrastNext 0x81 refl refl in
+      let q : readOf k (step k s askCycle .registers .awaited) v ≡ given (ContrastValue v) =
+      subst (λ a. readOf k a v ≡ given (ContrastValue v)) (sym (ap (λ t. t .registers .awaited) (d .1))) (ap (λ (x : ℕ). given (ContrastValue x)) (omega arith)) in
+      let e = acts k g (step k s askCycle) (ContrastValue v) v (d .2) q in
+      let f = e .1 ∙ ap (λ t. state (executed (t .registers) (ContrastValue v)) (t .memory)) (d .1) in (
+        e .0,
+        record { restartable = e .2; quiet = ap (λ t. t .registers .awaited) f },
+        ap (λ t. withRest (rest (s .registers)) (viewOf t)) f,
+        ap (λ t. settings (rest (t .registers))) f,
+        ap (λ t. t .registers .«indicator_value») f,
+        ap (λ t. t .registers .indicator) f,
+        ap (λ t. t .registers .contrast) f,
+      );
+}
+
+-- ---- the KS0713
+
+abbrev pub chip0713 : Chip 132
+chip0713 = chipOf numbers0713 sensible0713
+
+abbrev pub restart0713 : Restart chip0713
+restart0713 = restartOf numbers0713 sensible0713
+
+-- ---- registers from what a stream moved and what it left
+
+-- after an update: page, column and holder, all else as in r
+pub moved : (a r : Registers) → rest a ≡ rest r → a ≡ placed r (a .page) (a .column .0) (a .holder)
+moved a r e = ap (λ x. placed x (a .page) (a .column .0) (a .holder)) e
+
+-- after a redraw: contrast, indicator and what is awaited besides
+pub redrawn : (a r : Registers) → settings (rest a) ≡ settings (rest r)
+    → a ≡ withAwaited (withIndicatorValue (withIndicator (withContrast (placed r (a .page) (a .column .0) (a .holder)) (a .contrast)) (a .indicator)) (a .«indicator_value»)) (a .awaited)
+redrawn a r e = ap (λ x. withAwaited (withIndicatorValue (withIndicator (withContrast (placed x (a .page) (a .column .0) (a .holder)) (a .contrast)) (a .indicator)) (a .«indicator_value»)) (a .awaited)) e

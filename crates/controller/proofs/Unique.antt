@@ -1,0 +1,92 @@
+-- What a cycle promises fixes its answer and the memory: what is told of an answer tells all answers apart, since it has an inverse.
+-- And each number is given exactly if its line of document 01's table holds and none earlier in the order does.
+-- Assumes nothing.
+use Prim.Native.Nat.{ℕ, _*_, _<_}
+use mathlib.Core.Path.{_≡_, _∙_, refl, ap, sym, subst}
+use mathlib.Core.Logic.{_≢_}
+use mathlib.Core.Bool.{Bool, true, false, cond, not, _&&_}
+use mathlib.Core.Option.{Option, none, some}
+use mathlib.Core.List.{List}
+use native.Mathlib.Omega.{arith}
+use lib.ListN.{length}
+use lib.Dec.{T, eqb}
+use Rattle.instructions.specs.Refusal.{wrongSize, outOfRange, pinLow, unassigned, wrongCycle}
+use Rattle.instructions.specs.Read.{readOf, assigned, nothingAwaited}
+use Rattle.instructions.specs.declared.numbers.Numbers.{Numbers}
+use Rattle.instructions.specs.declared.instruction.Awaited.{Awaited}
+use Rattle.instructions.specs.declared.instruction.Awaited.the-variants as awaited
+use Rattle.instructions.specs.declared.instruction.Instruction.{Instruction}
+use Rattle.instructions.proofs.Fits.{either}
+use Rattle.instructions.proofs.Unique.{read-none, read-some}
+use Rattle.controller.specs.Registers.{outside, PoweredUp}
+use Rattle.controller.specs.Cycle.{Outcome, outcome, refusedWith, instructed, instructedBy, malformed, heldLow, unread, refusal, carried, cycleNumber, answer, Cycled}
+use Rattle.controller.specs.declared.registers.Registers.{Registers}
+use Rattle.controller.specs.declared.cycle.Answer.{Answer}
+use Rattle.controller.specs.declared.cycle.Answer.the-variants.{Done, Status, Read, Refused}
+
+-- ---- one answer
+
+back : ℕ → Option ℕ → Option Registers → Answer
+back n none none = Refused n
+back n none (some r) = Done r
+back n (some b) none = Status b
+back n (some b) (some r) = Read b r
+
+back-is : (a : Answer) → back (outcome a .number) (outcome a .byte) (outcome a .registers) ≡ a
+unfolding back
+back-is (Done r) = refl
+back-is (Status b) = refl
+back-is (Read b r) = refl
+back-is (Refused n) = refl
+
+-- answers that are told alike are equal
+pub answer-told : (a b : Answer) → outcome a ≡ outcome b → a ≡ b
+answer-told a b e = sym (back-is a) ∙ ap (λ o. back (o .number) (o .byte) (o .registers)) e ∙ back-is b
+
+-- two answers and two memories that a cycle's promise admits are equal
+pub cycled-one : {k : Numbers} {r : Registers} {m : List ℕ} {kind value : ℕ} {a b : Answer} {left right : List ℕ}
+    → Cycled k r m kind value a left → Cycled k r m kind value b right → (a ≡ b) × (left ≡ right)
+cycled-one {a = a} {b = b} f g = (answer-told a b (f .tells ∙ sym (g .tells)), f .leaves ∙ sym (g .leaves))
+
+pub powered-one : {k : Numbers} {r s : Registers} → PoweredUp k r → PoweredUp k s → r ≡ s
+powered-one f g = f .tells ∙ sym (g .tells)
+
+-- ---- its number
+
+-- a refusal before the instruction byte is looked at, or the number of what is carried out
+in-order : (a b c d : Bool) (o : Outcome)
+    → cond (eqb (cond a wrongSize (cond b outOfRange (cond c wrongCycle (cond d pinLow 0)))) 0) o
+    (refusedWith (cond a wrongSize (cond b outOfRange (cond c wrongCycle (cond d pinLow 0))))) .number
+    ≡ cond a wrongSize (cond b outOfRange (cond c wrongCycle (cond d pinLow (o .number))))
+in-order true b c d o = refl
+in-order false true c d o = refl
+in-order false false true d o = refl
+in-order false false false true o = refl
+in-order false false false false o = refl
+
+module _ (k : Numbers) (r : Registers) (value : ℕ) (h : value < 256) where
+  read-number : (x : Option Instruction) → readOf k awaited.Nothing value .value ≡ x
+      → instructedBy r (readOf k awaited.Nothing value .number) x .number ≡ cond (not (assigned value)) unassigned 0
+  read-number none e = let f = read-none k value h e in f .1 ∙ rw (f .0) refl
+  read-number (some i) e = rw (read-some k value h i e) refl
+
+  instructed-number : (a : Awaited) → instructed r (readOf k a value) .number ≡ cond (nothingAwaited a && not (assigned value)) unassigned 0
+  instructed-number awaited.Nothing = read-number (readOf k awaited.Nothing value .value) refl
+  instructed-number awaited.Contrast = refl
+  instructed-number awaited.Indicator = refl
+
+  -- only an instruction is refused so late
+  carried-number : (t : Bool) (o : Outcome) → o .number ≡ 0
+      → cond t (instructed r (readOf k (r .awaited) value)) o .number ≡ cond (t && (nothingAwaited (r .awaited) && not (assigned value))) unassigned 0
+  carried-number true o e = instructed-number (r .awaited)
+  carried-number false o e = e
+
+  -- each number exactly if its line holds and none earlier does
+  pub number-exactly : (m : List ℕ) (kind : ℕ) → answer k r m kind value .number ≡ cycleNumber k (length m) r kind value
+  unfolding answer refusal carried cycleNumber unread
+  number-exactly m kind =
+      in-order (not (eqb (length m) (9 * k .width))) (outside k r) (malformed kind value) (heldLow r kind) _
+      ∙ ap (λ (n : ℕ). cond (not (eqb (length m) (9 * k .width))) wrongSize (cond (outside k r) outOfRange (cond (malformed kind value) wrongCycle (cond (heldLow r kind) pinLow n))))
+      (carried-number (eqb kind 0) _
+      (let P : Outcome → Type 0 = λ o. o .number ≡ 0 in
+      either P (eqb kind 1) refl (either P (eqb kind 2) refl (either P (eqb kind 3) refl (either P (eqb kind 4) refl refl)))))

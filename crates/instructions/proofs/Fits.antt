@@ -1,0 +1,79 @@
+-- Whatever the reader reads is inside its fields, for any chip.
+-- Assumes nothing.
+use Prim.Native.Nat.{ℕ, _+_, _-_, _*_, _%_, _≤_, _<_}
+use mathlib.Core.Path.{_≡_, refl, ap, subst}
+use mathlib.Core.Bool.{Bool, true, false, cond}
+use mathlib.Core.Option.{Option, none, some}
+use native.Mathlib.Omega.{arith}
+use lib.Dec.{eqb, ltb, leb}
+use borrow.Author.Tests.{ltb-true, ltb-false}
+use Rattle.instructions.specs.Told.{Told, given, refused}
+use Rattle.instructions.specs.Numbers.{Sensible}
+use Rattle.instructions.specs.Write.{fieldOf, flagOf, writeOf}
+use Rattle.instructions.specs.Read.{classOf, roomIn, readBy, readFirst, readOf}
+use Rattle.instructions.specs.declared.numbers.Numbers.{Numbers}
+use Rattle.instructions.specs.declared.instruction.Awaited.{Awaited}
+use Rattle.instructions.specs.declared.instruction.Awaited.the-variants as awaited
+use Rattle.instructions.specs.declared.instruction.Instruction.{Instruction}
+use Rattle.instructions.proofs.Fields.{field-given}
+
+-- what holds of both holds of the one that is chosen
+pub either : {A : Type 0} (P : A → Type 0) (t : Bool) {x y : A} → P x → P y → P (cond t x y)
+either P true p q = p
+either P false p q = q
+
+-- an instruction is inside its fields: its byte is not refused
+abbrev pub Fits : Numbers → Instruction → Type 0
+Fits k i = writeOf k i .number ≡ 0
+
+abbrev pub FitsIf : Numbers → Option Instruction → Type 0
+FitsIf k (some i) = Fits k i
+FitsIf k none = Unit {0}
+
+field-fits : (base count v : ℕ) → v < count → fieldOf base count v .number ≡ 0
+field-fits base count v h = ap (λ t. t .number) (field-given base count v h)
+
+flag-fits : (off on : ℕ) (f : Bool) → flagOf off on f .number ≡ 0
+unfolding flagOf
+flag-fits off on true = refl
+flag-fits off on false = refl
+
+room-by : (highs h : ℕ) (t : Bool) → ltb h highs ≡ t → h < 16 → 8 ≤ highs → cond t h (h - highs) < highs
+room-by highs h true e l m = ltb-true h highs e
+room-by highs h false e l m = omega (arith, ltb-false h highs e)
+
+-- the counter has room for what is left of a high part
+room-in : (k : Numbers) → Sensible k → (h : ℕ) → h < 16 → roomIn (k .highs) h < k .highs
+unfolding roomIn
+room-in k g h l = room-by (k .highs) h (ltb h (k .highs)) refl l (g .high)
+
+by-fits : (k : Numbers) → Sensible k → (c b : ℕ) → FitsIf k (readBy k c b .value)
+unfolding readBy
+by-fits k g c b =
+    let P : Told Instruction → Type 0 = λ t. FitsIf k (t .value) in
+    either P (eqb c 1) (field-fits 0x00 16 (b % 16) (omega arith))
+    (either P (eqb c 2) (field-fits 0x10 (k .highs) (roomIn (k .highs) (b % 16)) (room-in k g (b % 16) (omega arith)))
+    (either P (eqb c 3) (field-fits 0x20 8 (b % 8) (omega arith))
+    (either P (eqb c 4) (field-fits 0x28 8 (b % 8) (omega arith))
+    (either P (eqb c 5) (field-fits 0x40 64 (b % 64) (omega arith))
+    (either P (eqb c 6) refl
+    (either P (eqb c 7) (flag-fits 0xa0 0xa1 (eqb (b % 2) 1))
+    (either P (eqb c 8) (flag-fits 0xa2 0xa3 (eqb (b % 2) 1))
+    (either P (eqb c 9) (flag-fits 0xa4 0xa5 (eqb (b % 2) 1))
+    (either P (eqb c 10) (flag-fits 0xa6 0xa7 (eqb (b % 2) 1))
+    (either P (eqb c 11) refl
+    (either P (eqb c 12) refl
+    (either P (eqb c 13) (flag-fits 0xae 0xaf (eqb (b % 2) 1))
+    (either P (eqb c 14) (field-fits 0xb0 16 (b % 16) (omega arith))
+    (either P (eqb c 15) (flag-fits 0xc0 0xc8 (leb 8 (b % 16)))
+    (either P (eqb c 16) refl
+    (either P (eqb c 17) refl
+    (either P (eqb c 18) refl
+    (either P (eqb c 19) refl
+    tt))))))))))))))))))
+
+pub read-fits-if : (k : Numbers) → Sensible k → (a : Awaited) (b : ℕ) → FitsIf k (readOf k a b .value)
+unfolding readFirst
+read-fits-if k g awaited.Nothing b = by-fits k g (classOf b) b
+read-fits-if k g awaited.Contrast b = field-fits 0x00 64 (b % 64) (omega arith)
+read-fits-if k g awaited.Indicator b = field-fits 0x00 4 (b % 4) (omega arith)

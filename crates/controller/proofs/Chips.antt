@@ -24,7 +24,7 @@ use Rattle.controller.specs.Execute.{executed}
 use Rattle.controller.specs.Memory.{advanced, stored}
 use Rattle.controller.specs.Cycle.{written}
 use Rattle.controller.specs.Run.{BusCycle}
-use Rattle.controller.specs.State.{State, state, step, number, Restartable, Ready, placed, rest, settings}
+use Rattle.controller.specs.State.{State, state, step, number, Restartable, Ready, placed, rest, settings, indicatorAwaited}
 use Rattle.controller.specs.Chip.{View, Chip, Restart, pageCycle, highCycle, lowCycle, dataCycle, nopCycle, offCycle, askCycle, contrastCycle, onPage, onColumn, withRest, wrote}
 use Rattle.controller.specs.declared.registers.Registers.{Registers}
 use Rattle.controller.proofs.Cells.{advanced-below}
@@ -87,12 +87,6 @@ chipOf k g = record {
 
 -- ---- a chip to redraw
 
--- the indicator's second byte is awaited
-abbrev pub pendingOf : Awaited → Bool
-pendingOf awaited.Nothing = false
-pendingOf awaited.Contrast = false
-pendingOf awaited.Indicator = true
-
 -- what E3 leaves, by what is awaited: it is spent as that
 module _ (k : Numbers) (g : Sensible k) (s : State) (h : Restartable k s) where
   abbrev pub Spent : ℕ → Type 0
@@ -116,7 +110,7 @@ module _ (k : Numbers) (g : Sensible k) (s : State) (h : Restartable k s) where
         ap (λ t. t .registers .«indicator_value») (e .1) ∙ f .3,
       )
 
-  pub spent-by : (a : Awaited) → s .registers .awaited ≡ a → Spent (cond (pendingOf a) 3 (s .registers .«indicator_value»))
+  pub spent-by : (a : Awaited) → s .registers .awaited ≡ a → Spent (cond (indicatorAwaited a) 3 (s .registers .«indicator_value»))
   spent-by awaited.Nothing e = spent-as Nop _ (rw e (read-back k g Nop 0xe3 refl)) (e, refl, refl, refl)
   spent-by awaited.Contrast e = spent-as (ContrastValue 35) _ (rw e refl) (refl, refl, refl, refl)
   spent-by awaited.Indicator e = spent-as (IndicatorValue 3) _ (rw e refl) (refl, refl, refl, refl)
@@ -128,7 +122,7 @@ restartOf k g = record {
   contrast = λ r. r .contrast;
   indicator = λ r. r .indicator;
   value = λ r. r .«indicator_value»;
-  pending = λ r. pendingOf (r .awaited);
+  pending = λ r. indicatorAwaited (r .awaited);
   Restartable = Restartable k;
   ready-restartable = λ s h. h .restartable;
   nop-law = λ s h. spent-by k g s h (s .registers .awaited) refl;
@@ -171,10 +165,16 @@ restart0713 = restartOf numbers0713 sensible0713
 -- ---- registers from what a stream moved and what it left
 
 -- after an update: page, column and holder, all else as in r
-pub moved : (a r : Registers) → rest a ≡ rest r → a ≡ placed r (a .page) (a .column .0) (a .holder)
-moved a r e = ap (λ x. placed x (a .page) (a .column .0) (a .holder)) e
+pub moved : (a r : Registers) {p c h : ℕ} → rest a ≡ rest r → a .page ≡ p → a .column .0 ≡ c → a .holder ≡ h → a ≡ placed r p c h
+moved a r e ep ec eh = rw (← ep, ← ec, ← eh) (ap (λ x. placed x (a .page) (a .column .0) (a .holder)) e)
 
--- after a redraw: contrast, indicator and what is awaited besides
-pub redrawn : (a r : Registers) → settings (rest a) ≡ settings (rest r)
-    → a ≡ withAwaited (withIndicatorValue (withIndicator (withContrast (placed r (a .page) (a .column .0) (a .holder)) (a .contrast)) (a .indicator)) (a .«indicator_value»)) (a .awaited)
-redrawn a r e = ap (λ x. withAwaited (withIndicatorValue (withIndicator (withContrast (placed x (a .page) (a .column .0) (a .holder)) (a .contrast)) (a .indicator)) (a .«indicator_value»)) (a .awaited)) e
+-- contrast, indicator and what is awaited as given, all else as in r
+abbrev pub set : Registers → ℕ → Bool → ℕ → Awaited → Registers
+set r contrast indicator value waits = withAwaited (withIndicatorValue (withIndicator (withContrast r contrast) indicator) value) waits
+
+-- after a redraw: these besides
+pub redrawn : (a r : Registers) {p c h k v : ℕ} {i : Bool} {w : Awaited} → settings (rest a) ≡ settings (rest r) → a .page ≡ p → a .column .0 ≡ c → a .holder ≡ h
+    → a .contrast ≡ k → a .indicator ≡ i → a .«indicator_value» ≡ v → a .awaited ≡ w → a ≡ set (placed r p c h) k i v w
+redrawn a r e ep ec eh ek ei ev ew =
+    rw (← ep, ← ec, ← eh, ← ek, ← ei, ← ev, ← ew)
+    (ap (λ x. set (placed x (a .page) (a .column .0) (a .holder)) (a .contrast) (a .indicator) (a .«indicator_value») (a .awaited)) e)

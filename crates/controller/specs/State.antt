@@ -2,12 +2,13 @@
 -- Assumes nothing.
 use Prim.Native.Nat.{ℕ, _*_}
 use mathlib.Core.Path.{_≡_}
-use mathlib.Core.Bool.{false}
+use mathlib.Core.Bool.{Bool, true, false}
 use mathlib.Core.Option.{Option, none, some}
 use mathlib.Core.List.{List}
 use lib.ListN.{length}
 use Rattle.instructions.specs.declared.numbers.Numbers.{Numbers}
-use Rattle.instructions.specs.declared.instruction.Awaited.the-variants.{Nothing}
+use Rattle.instructions.specs.declared.instruction.Awaited.{Awaited}
+use Rattle.instructions.specs.declared.instruction.Awaited.the-variants as awaited
 use Rattle.controller.specs.Registers.{column, withPage, withColumn, withHolder, withContrast, withIndicator, withIndicatorValue, withAwaited, outside}
 use Rattle.controller.specs.Cycle.{Outcome, answer, memoryAfter}
 use Rattle.controller.specs.Run.{BusCycle, runBy, numbersBy}
@@ -53,7 +54,7 @@ pub record Restartable (k : Numbers) (s : State) : Type 0 where
 -- the reset pin high and no second byte awaited
 pub record Ready (k : Numbers) (s : State) : Type 0 where
   pub restartable : Restartable k s
-  pub quiet : s .registers .awaited ≡ Nothing
+  pub quiet : s .registers .awaited ≡ awaited.Nothing
 
 -- ---- what streams move
 
@@ -67,4 +68,10 @@ rest r = placed r 0 0 0
 
 -- the registers without what a redraw moves
 abbrev pub settings : Registers → Registers
-settings r = withAwaited (withIndicatorValue (withIndicator (withContrast (rest r) 0) false) 0) Nothing
+settings r = withAwaited (withIndicatorValue (withIndicator (withContrast (rest r) 0) false) 0) awaited.Nothing
+
+-- the indicator's second byte is the one awaited
+abbrev pub indicatorAwaited : Awaited → Bool
+indicatorAwaited awaited.Nothing = false
+indicatorAwaited awaited.Contrast = false
+indicatorAwaited awaited.Indicator = true

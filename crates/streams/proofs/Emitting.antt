@@ -1,0 +1,64 @@
+-- The cycles of a list of stretches: what goes ahead of each, how lists follow one another, and how long it all is. The page byte
+-- depends only on the page of the stretch before.
+-- Assumes nothing.
+use Prim.Native.Nat.{ℕ, suc, _+_, _<_}
+use mathlib.Core.Path.{_≡_, refl}
+use mathlib.Core.Bool.{true, false}
+use mathlib.Core.Option.{Option, none, some}
+use mathlib.Core.List.{List, [], _∷_, _++_, append-assoc}
+use native.Mathlib.Omega.{arith}
+use lib.ListN.{length, length-append, length-map}
+use borrow.Author.Tests.{eq-eqb, ne-eqb}
+use Rattle.controller.specs.Chip.{pageCycle}
+use Rattle.streams.specs.Stretch.{Stretch, Place, endOf, onIt, columnBytes, address, emitBy, emit, after}
+
+-- ---- what goes ahead of a stretch
+
+pub address-on : (before : Option Place) (x : Stretch) → onIt before (x .page) ≡ true → address before x ≡ columnBytes (x .start)
+unfolding address
+address-on before x e = rw e
+
+pub address-off : (before : Option Place) (x : Stretch) → onIt before (x .page) ≡ false
+    → address before x ≡ pageCycle (x .page) ∷ columnBytes (x .start)
+unfolding address
+address-off before x e = rw e
+
+pub on-same : (l : Place) (p : ℕ) → l .page ≡ p → onIt (some l) p ≡ true
+unfolding onIt
+on-same l p e = eq-eqb (l .page) p e
+
+-- the stretch before was on a page below p
+abbrev pub Under : Option Place → ℕ → Type 0
+Under none p = Unit {0}
+Under (some l) p = l .page < p
+
+pub under-off : (before : Option Place) (p : ℕ) → Under before p → onIt before p ≡ false
+unfolding onIt
+under-off none p u = refl
+under-off (some l) p u = ne-eqb (l .page) p (omega arith)
+
+pub under-next : (before : Option Place) (p : ℕ) → Under before p → Under before (suc p)
+under-next none p u = tt
+under-next (some l) p u = omega arith
+
+-- ---- the cycles
+
+pub emit-nil : (before : Option Place) → emit before [] ≡ []
+unfolding emitBy
+emit-nil before = refl
+
+pub emit-append : (before : Option Place) (xs ys : List Stretch) → emit before (xs ++ ys) ≡ emit before xs ++ emit (after before xs) ys
+unfolding emitBy after
+emit-append before [] ys = refl
+emit-append before (x ∷ xs) ys = rw (emit-append (some (endOf x)) xs ys) (simp append-assoc)
+
+-- only the page of the stretch before counts
+pub emit-place : (l m : Place) (xs : List Stretch) → l .page ≡ m .page → emit (some l) xs ≡ emit (some m) xs
+unfolding emitBy address onIt
+emit-place l m [] e = refl
+emit-place l m (x ∷ xs) e = rw e
+
+pub cons-length : (before : Option Place) (x : Stretch) (xs : List Stretch)
+    → length (emit before (x ∷ xs)) ≡ length (address before x) + length (x .content) + length (emit (some (endOf x)) xs)
+unfolding emitBy
+cons-length before x xs = simp (length-append, length-map) (omega arith)

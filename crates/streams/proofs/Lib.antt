@@ -1,0 +1,15 @@
+pub mod Cases
+pub mod Sums
+pub mod Pictures
+pub mod Runs
+pub mod Cost
+pub mod Emitting
+pub mod Painting
+pub mod Length
+pub mod Least
+pub mod Walking
+pub mod Counting
+pub mod Running
+pub mod Updating
+pub mod Redrawing
+pub mod Readers

@@ -1,0 +1,79 @@
+-- How the update's stretches lie: on each page they begin and end on differing columns, rise, lie at least 3 equal columns apart,
+-- and everything outside them is equal. A column that joins a run ends it on the left; the rest of the run stays. And the stream is
+-- its page groups, one after the other, since each is a walk of its own.
+-- Assumes nothing.
+use Prim.Native.Nat.{ℕ, zero, suc, _+_, _-_}
+use mathlib.Core.Path.{_≡_, refl, sym, _∙_}
+use mathlib.Core.Bool.{Bool, true, false}
+use mathlib.Core.Option.{none}
+use mathlib.Core.List.{List, [], _∷_}
+use native.Mathlib.Omega.{arith}
+use Rattle.streams.specs.Picture.{differs}
+use Rattle.streams.specs.Update.{Run, joins, join, joinIf, runs, updateStream}
+use Rattle.streams.specs.Walk.{walkPages}
+use Rattle.streams.specs.Shape.{Equal, Edge, Tidy, groups}
+use Rattle.streams.proofs.Cases.{split, less}
+use Rattle.streams.proofs.Runs.{joins-far}
+use Rattle.streams.proofs.Walking.{page-walk, update-walk}
+
+module _ (d : ℕ → Bool) where
+  equal-more : (c e : ℕ) → d c ≡ false → Equal d (suc c) e → Equal d c e
+  equal-more c e t h k a b = less c k (λ l. h k l b) (λ l. let i : k ≡ c = omega arith in rw i t)
+
+  -- an equal column more
+  tidy-same : (c e : ℕ) (rs : List Run) → d c ≡ false → Tidy d (suc c) e rs → Tidy d c e rs
+  tidy-same c e [] t h = equal-more c e t h
+  tidy-same c e (r ∷ rs) t h =
+      let g = h .0 in
+      (record { rises = omega (arith, g .rises); filled = g .filled; equal = equal-more c (r .start) t (g .equal); first = g .first; last = g .last }, h .1, h .2)
+
+  -- a run of its own
+  alone : (c : ℕ) → d c ≡ true → Edge d c (record { start = c; size = 1 })
+  alone c t = record {
+    rises = omega arith;
+    filled = omega arith;
+    equal = λ k a b. absurd (omega arith);
+    first = t;
+    last = λ k i. (let j : k ≡ c = omega arith in rw j t);
+  }
+
+  -- a differing column more
+  tidy-join : (c e : ℕ) (rs : List Run) → d c ≡ true → Tidy d (suc c) e rs → Tidy d c e (join c rs)
+  unfolding join
+  tidy-join c e [] t h = (alone c t, tt, λ k a b. h k (omega arith) b)
+  tidy-join c e (r ∷ rs) t h = split (joins (suc c) (r .start))
+      (λ u. let i : c + (r .start - c + r .size) ≡ r .start + r .size = omega (arith, h .0 .rises) in
+      rw u (
+        record {
+          rises = omega arith;
+          filled = omega (arith, h .0 .filled);
+          equal = λ k a b. absurd (omega arith);
+          first = t;
+          last = λ k j. h .0 .last k (omega arith);
+        },
+        rw i (h .1),
+        rw i (h .2),
+      ))
+      (λ u. let i : c + 1 ≡ suc c = omega arith in rw u (alone c t, omega (arith, joins-far (suc c) (r .start) u), rw i h))
+
+  runs-tidy : (c n e : ℕ) → c + n ≡ e → Tidy d c e (runs d c n)
+  unfolding runs joinIf
+  runs-tidy c zero e i = λ k a b. absurd (omega arith)
+  runs-tidy c (suc n) e i =
+      let ih : Tidy d (suc c) e (runs d (suc c) n) = runs-tidy (suc c) n e (omega arith) in
+      split (d c)
+      (λ t. rw t (tidy-join c e (runs d (suc c) n) t ih))
+      (λ t. rw t (tidy-same c e (runs d (suc c) n) t ih))
+
+module _ (W : ℕ) (r w : List ℕ) where
+  -- the runs of page p; its stretches are these, with the wanted bytes
+  pub page-tidy : (p : ℕ) → Tidy (differs W r w p) 0 W (runs (differs W r w p) 0 W)
+  page-tidy p = runs-tidy (differs W r w p) 0 W W (omega arith)
+
+  groups-walk : (p n : ℕ) → groups W r w p n ≡ walkPages W r w p n
+  unfolding groups walkPages
+  groups-walk p zero = refl
+  groups-walk p (suc n) = rw (page-walk W r w none p tt, groups-walk (suc p) n)
+
+  pub update-groups : updateStream W r w ≡ groups W r w 0 9
+  update-groups = update-walk W r w ∙ sym (groups-walk 0 9)

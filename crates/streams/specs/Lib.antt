@@ -1,0 +1,9 @@
+pub mod Picture
+pub mod Stretch
+pub mod Update
+pub mod Length
+pub mod Redraw
+pub mod Paint
+pub mod Walk
+pub mod Demand
+pub mod Shape

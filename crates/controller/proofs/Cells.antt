@@ -1,7 +1,7 @@
 -- Laws of the display memory, over the width w, so that no layer above opens its definitions.
 -- Assumes nothing.
 use Prim.Native.Nat.{ℕ, _+_, _*_, _%_, _≤_, _<_}
-use mathlib.Core.Path.{_≡_, refl, ap}
+use mathlib.Core.Path.{_≡_, refl, ap, sym, subst}
 use mathlib.Core.Logic.{_≢_}
 use mathlib.Core.Bool.{Bool, true, false, cond, _&&_}
 use mathlib.Core.List.{List}
@@ -10,8 +10,8 @@ use native.Mathlib.Nat.{mul-le-mul-left}
 use native.Mathlib.Decide.{decLt}
 use lib.ListN.{length, getD, set, length-set}
 use lib.Seq.{getD-set-same, getD-set-other}
-use lib.Dec.{ltb, eqb}
-use borrow.Author.Tests.{lt-ltb, le-ltb, eq-eqb, ne-eqb, eqb-true}
+use lib.Dec.{T, ltb, eqb}
+use borrow.Author.Tests.{lt-ltb, le-ltb, ne-eqb, ltb-true}
 use Rattle.controller.specs.Memory.{cellOf, isCell, stored, loaded, advanced}
 
 -- ---- what a byte shows
@@ -59,6 +59,16 @@ place-one w p q c k hc hk e = less p q
 pub is-cell : (w p c : ℕ) → p < 9 → c < w → isCell w p c ≡ true
 unfolding isCell
 is-cell w p c hp hc = simp (lt-ltb p 9 hp, lt-ltb c w hc)
+
+both-true : (a b : Bool) → a && b ≡ true → (a ≡ true) × (b ≡ true)
+both-true true true e = (refl, refl)
+both-true true false e = absurd (subst T (sym e) tt)
+both-true false b e = absurd (subst T (sym e) tt)
+
+-- and it lies inside the memory
+pub cell-inside : (w p c : ℕ) → isCell w p c ≡ true → w * p + c < 9 * w
+unfolding isCell
+cell-inside w p c e = let f = both-true (ltb p 9) (ltb c w) e in place w p c (ltb-true p 9 (f .0)) (ltb-true c w (f .1))
 
 both-false : (a : Bool) → a && false ≡ false
 both-false true = refl

@@ -61,9 +61,11 @@ fn after_read(width: usize, registers: Registers, mode: ModifyRead, byte: u8) ->
     requires { ⌜ width ≤ 255 ⌝ }
     ensures { λ n. ⌜ n ≡ afterRead width registers mode byte ⌝ }
 {
+    let on = with_holder(registers, byte);
+    let off = after_write(width, registers, byte);
     match mode {
-        ModifyRead::Off => after_write(width, registers, byte),
-        ModifyRead::On(_) => with_holder(registers, byte),
+        ModifyRead::Off => off,
+        ModifyRead::On(_) => on,
     }
 }
 
@@ -89,16 +91,18 @@ fn refusal_of(chip: Numbers, len: usize, registers: Registers, kind: u8, value: 
     requires { ⌜ Sensible chip ⌝ }
     ensures { λ n. ⌜ n ≡ refusal chip len registers kind value ⌝ }
 {
+    let outside = outside_range(chip, registers);
+    let malformed = not_a_cycle(kind, value);
+    let held = registers.pin_low & ((kind < 2) | (kind == 3));
     if len != 9 * chip.width {
         return WRONG_SIZE;
     }
-    if outside_range(chip, registers) {
+    if outside {
         return OUT_OF_RANGE;
     }
-    if not_a_cycle(kind, value) {
+    if malformed {
         return WRONG_CYCLE;
     }
-    let held = registers.pin_low & ((kind < 2) | (kind == 3));
     if held {
         return PIN_LOW;
     }

@@ -52,9 +52,13 @@ fn restore(registers: Registers, mode: ModifyRead) -> Registers
 fn reset_four(registers: Registers) -> Registers
     ensures { λ n. ⌜ n ≡ reset registers ⌝ }
 {
-    let lines = with_start_line(registers, 0);
-    let columns = with_column(lines, Column(0));
-    with_shl(with_page(columns, 0), false)
+    let mut next = registers;
+    let column = Column(0);
+    next.start_line = 0;
+    next.column = column;
+    next.page = 0;
+    next.shl = false;
+    next
 }
 
 // The low and the high four bits of the column, the other four as they stand.

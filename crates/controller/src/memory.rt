@@ -2,7 +2,7 @@
 ghost use mathlib.Core.Path.{_≡_};
 ghost use Prim.Native.Nat.{_*_, _≤_};
 ghost use lib.ListN.{length};
-ghost use Rattle.controller.specs.Memory.{cellOf, stored, loaded, advanced};
+ghost use Rattle.controller.specs.Memory.{cellOf, isCell, stored, loaded, advanced};
 
 // A byte as a page holds it: on page 8 only bit 0 exists.
 fn cell(page: u8, value: u8) -> u8
@@ -11,40 +11,43 @@ fn cell(page: u8, value: u8) -> u8
     if page == 8 { value % 2 } else { value }
 }
 
+// Whether there is a cell at a page and column.
+fn is_cell(width: usize, page: u8, column: u8) -> bool
+    ensures { λ r. ⌜ r ≡ isCell width page column ⌝ }
+{
+    (page < 9) & ((column as usize) < width)
+}
+
+// A data write: stored where there is such a cell, otherwise nothing is stored.
 pub(crate) fn store(width: usize, memory: &mut [u8], page: u8, column: u8, value: u8)
     requires { ⌜ length (now memory) ≡ 9 * width ⌝ }
     ensures { λ _. ⌜ now (memory .exit) ≡ stored width (now (memory .entry)) page column value ⌝ }
 {
-    if page < 9 {
-        let c = column as usize;
-        if c < width {
-            let at = width * (page as usize) + c;
-            memory[at] = cell(page, value);
-        }
+    if is_cell(width, page, column) {
+        let at = width * (page as usize) + column as usize;
+        memory[at] = cell(page, value);
     }
 }
 
+// A data read's load: 0 where there is no such cell.
 pub(crate) fn load(width: usize, memory: &[u8], page: u8, column: u8) -> u8
     requires { ⌜ length (now memory) ≡ 9 * width ⌝ }
     ensures { λ r. ⌜ r ≡ loaded width (now (memory .entry)) page column ⌝ }
 {
-    if page < 9 {
-        let c = column as usize;
-        if c < width {
-            let at = width * (page as usize) + c;
-            return cell(page, memory[at]);
-        }
+    if is_cell(width, page, column) {
+        let at = width * (page as usize) + column as usize;
+        return cell(page, memory[at]);
     }
     0
 }
 
+// The column after a data cycle: from the width up it stays.
 pub(crate) fn advance(width: usize, column: u8) -> u8
     requires { ⌜ width ≤ 255 ⌝ }
     ensures { λ r. ⌜ r ≡ advanced width column ⌝ }
 {
-    if (column as usize) < width {
-        column + 1
-    } else {
-        column
+    if width <= column as usize {
+        return column;
     }
+    column + 1
 }

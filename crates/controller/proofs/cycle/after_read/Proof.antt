@@ -8,9 +8,9 @@ pub after-read-spec : {M : Type 1} → statement M
 after-read-spec =
     tie.close
     (tie.spec
-    (λ c. search needs)
+    (λ c κs. search needs)
     (λ c κs. search needs)
     (λ c. search needs)
-    (λ c κs. search needs)
-    (λ c. rw (c .before .enum-told .given .1) (c .after-write .ensures))
-    (λ c. rw (c .before .enum-told2 .given .1) (c .with-holder .ensures)))
+    (λ c. search needs)
+    (λ c. rw (c .enum-told .given .1) (c .before .before .after-write .ensures))
+    (λ c. rw (c .enum-told2 .given .1) (c .before .before .before .with-holder .ensures)))

@@ -11,11 +11,11 @@ unfolding refusal
 refusal-of-spec =
     tie.close
     (tie.spec
+    (λ c κs. search needs)
+    (λ c κs. search needs)
     (λ c. search needs)
     (λ c. simp (ne-eqb _ _ (c .if1 .taken)))
-    (λ c κs. search needs)
-    (λ c. simp (eq-eqb _ _ (c .before .before .if1 .left), ← c .before .outside-range .ensures, c .if2 .taken))
-    (λ c κs. search needs)
-    (λ c. simp (eq-eqb _ _ (c .before .before .before .before .if1 .left), ← c .before .before .before .outside-range .ensures, c .before .before .if2 .left, ← c .before .not-a-cycle .ensures, c .if3 .taken))
-    (λ c. simp (eq-eqb _ _ (c .before .before .before .before .before .before .if1 .left), ← c .before .before .before .before .before .outside-range .ensures, c .before .before .before .before .if2 .left, ← c .before .before .before .not-a-cycle .ensures, c .before .before .if3 .left, c .if4 .taken))
-    (λ c. simp (eq-eqb _ _ (c .before .before .before .before .before .before .if1 .left), ← c .before .before .before .before .before .outside-range .ensures, c .before .before .before .before .if2 .left, ← c .before .before .before .not-a-cycle .ensures, c .before .before .if3 .left, c .if4 .left)))
+    (λ c. simp (eq-eqb _ _ (c .before .if1 .left), ← c .before .before .before .before .before .outside-range .ensures, c .if2 .taken))
+    (λ c. simp (eq-eqb _ _ (c .before .before .if1 .left), ← c .before .before .before .before .before .before .outside-range .ensures, c .before .if2 .left, ← c .before .before .before .before .before .not-a-cycle .ensures, c .if3 .taken))
+    (λ c. simp (eq-eqb _ _ (c .before .before .before .if1 .left), ← c .before .before .before .before .before .before .before .outside-range .ensures, c .before .before .if2 .left, ← c .before .before .before .before .before .before .not-a-cycle .ensures, c .before .if3 .left, c .if4 .taken))
+    (λ c. simp (eq-eqb _ _ (c .before .before .before .if1 .left), ← c .before .before .before .before .before .before .before .outside-range .ensures, c .before .before .if2 .left, ← c .before .before .before .before .before .before .not-a-cycle .ensures, c .before .if3 .left, c .if4 .left)))

@@ -1,0 +1,7 @@
+pub mod Either
+pub mod Listed
+pub mod Bits
+pub mod Places
+pub mod Ratios
+pub mod Promised
+pub mod Readers

@@ -1,0 +1,41 @@
+-- Where a byte of a frame stands, and how long memory and frame are where nothing is refused.
+-- Assumes nothing.
+use Prim.Native.Nat.{ℕ, _+_, _*_, _/_, _%_, _≤_, _<_}
+use mathlib.Core.Path.{_≡_, refl}
+use mathlib.Core.Bool.{Bool, true, false, cond, not, _||_}
+use native.Mathlib.Omega.{arith}
+use native.Mathlib.Nat.{div-lt-iff-lt-mul, mod-lt}
+use lib.Dec.{eqb}
+use borrow.Author.Tests.{eqb-true, not-false}
+use Rattle.instructions.specs.Refusal.{wrongSize}
+use Rattle.instructions.specs.declared.numbers.Numbers.{Numbers}
+use Rattle.controller.proofs.Cells.{place}
+use Rattle.controller.specs.declared.registers.Registers.{Registers}
+use Rattle.glass.specs.Frame.{refusal}
+use Rattle.glass.proofs.Either.{neither}
+
+-- a line is on one of 9 pages
+pub line-place : (w line c : ℕ) → line ≤ 64 → c < w → w * (line / 8) + c < 9 * w
+line-place w line c hl hc = place w (line / 8) c (omega arith) hc
+
+-- byte i of a frame is on one of 9 strips, under one of w segments
+pub strip : (w i : ℕ) → 1 ≤ w → i < 9 * w → i / w < 9
+strip w i hw h = div-lt-iff-lt-mul hw .1 h
+
+pub segment : (w i : ℕ) → 1 ≤ w → i % w < w
+segment w i hw = mod-lt i hw
+
+-- two lengths of which neither is wrong
+pub right-sizes : (size m n : ℕ) → not (eqb m size) || not (eqb n size) ≡ false → (m ≡ size) × (n ≡ size)
+right-sizes size m n e =
+    let p = neither (not (eqb m size)) (not (eqb n size)) e in
+    (eqb-true m size (not-false (eqb m size) (p .0)), eqb-true n size (not-false (eqb n size) (p .1)))
+
+passed : (t : Bool) (x : ℕ) → cond t wrongSize x ≡ 0 → t ≡ false
+passed true x e = absurd (let z : _≡_ {A = ℕ} 1 0 = e in omega arith)
+passed false x e = refl
+
+-- where nothing is refused the memory and the frame are 9 strips long
+pub long : (c : Numbers) (r : Registers) (m n : ℕ) → refusal c r m n ≡ 0 → (m ≡ 9 * c .width) × (n ≡ 9 * c .width)
+unfolding refusal
+long c r m n e = right-sizes (9 * c .width) m n (passed (not (eqb m (9 * c .width)) || not (eqb n (9 * c .width))) _ e)

@@ -1,0 +1,241 @@
+-- What frame, power_state and v0 promise fixes their answers: what is told of an answer tells all answers apart, since it has an inverse.
+-- And each number is given exactly when its line of document 01's table holds and none earlier does. No refusal is 0.
+-- Assumes nothing.
+use Prim.Native.Nat.{ℕ, _*_, _<_}
+use mathlib.Core.Path.{_≡_, _∙_, refl, ap, sym, subst}
+use mathlib.Core.Logic.{_≢_, _⊎_, inl, inr}
+use mathlib.Core.Bool.{Bool, true, false, cond, not, _||_}
+use mathlib.Core.List.{List}
+use mathlib.Core.Option.{Option, none, some}
+use native.Mathlib.Omega.{arith}
+use lib.ListN.{length}
+use lib.Dec.{ltb, eqb}
+use borrow.Author.Tests.{ltb-true, lt-ltb, eqb-false, eq-eqb, ne-eqb, not-true}
+use Rattle.instructions.specs.Refusal.{wrongSize, outOfRange}
+use Rattle.instructions.specs.Told.{Told, given, refused}
+use Rattle.instructions.specs.declared.numbers.Numbers.{Numbers}
+use Rattle.controller.specs.Registers.{outside}
+use Rattle.controller.specs.declared.registers.Registers.{Registers}
+use Rattle.glass.specs.Frame.{frameOf, refusal, toldShown, IsShown}
+use Rattle.glass.specs.Power.{powerOf, toldPower, IsPower}
+use Rattle.glass.specs.Voltage.{numerator, toldVoltage, IsVoltage}
+use Rattle.glass.specs.declared.frame.Shown.{Shown}
+use Rattle.glass.specs.declared.frame.Shown.the-variants as shown
+use Rattle.glass.specs.declared.power.PowerState.{PowerState}
+use Rattle.glass.specs.declared.power.Powered.{Powered}
+use Rattle.glass.specs.declared.power.Powered.the-variants as powered
+use Rattle.glass.specs.declared.voltage.Voltage.{Voltage}
+use Rattle.glass.specs.declared.voltage.Voltage.the-variants as voltage
+use Rattle.glass.proofs.Either.{either, or-true}
+use Rattle.glass.proofs.Places.{right-sizes}
+
+abbrev pub Exactly : Type 0 → Type 0 → Type 0
+Exactly A B = (A → B) × (B → A)
+
+-- ---- an answer that is refused with one number where a test holds, and else given
+
+module _ {A : Type 0} where
+  given-not : {x : A} {n : ℕ} → refused n ≡ given x → ⊥
+  given-not e = let f = ap (λ t. t .value) e in let z : _≡_ {A = ℕ} 0 1 = cc in omega arith
+
+  only : (t : Bool) (n m : ℕ) (x : A) → refused m ≡ cond t (refused n) (given x) → (m ≡ n) × (t ≡ true)
+  only true n m x e = (ap (λ t. t .number) e, refl)
+  only false n m x e = absurd (given-not e)
+
+  is-given : (t : Bool) (n : ℕ) (x : A) → given x ≡ cond t (given x) (refused n) → t ≡ true
+  is-given true n x e = refl
+  is-given false n x e = absurd (given-not (sym e))
+
+  is-refused : (t : Bool) (n m : ℕ) (x : A) → refused n ≡ cond t (given x) (refused m) → t ≡ false
+  is-refused true n m x e = absurd (given-not e)
+  is-refused false n m x e = refl
+
+-- ---- the power state
+
+poweredBy : ℕ → Option PowerState → Powered
+poweredBy n (some p) = powered.State p
+poweredBy n none = powered.Refused n
+
+powered-back : (a : Powered) → poweredBy (toldPower a .number) (toldPower a .value) ≡ a
+unfolding poweredBy
+powered-back (powered.State p) = refl
+powered-back (powered.Refused n) = refl
+
+-- answers that are told alike are equal
+pub power-told : (a b : Powered) → toldPower a ≡ toldPower b → a ≡ b
+power-told a b e = sym (powered-back a) ∙ ap (λ t. poweredBy (t .number) (t .value)) e ∙ powered-back b
+
+module _ {c : Numbers} {r : Registers} where
+  -- two answers that the promise admits are equal
+  pub power-one : {a b : Powered} → IsPower c r a → IsPower c r b → a ≡ b
+  power-one {a} {b} f g = power-told a b (f .tells ∙ sym (g .tells))
+
+  -- no number but 2, and 2 exactly if a register is outside its range
+  pub power-number : {n : ℕ} → IsPower c r (powered.Refused n) → (n ≡ outOfRange) × (outside c r ≡ true)
+  power-number {n} f = only (outside c r) outOfRange n (powerOf r) (f .tells)
+
+  pub power-2 : {a : Powered} → IsPower c r a → Exactly (a ≡ powered.Refused outOfRange) (outside c r ≡ true)
+  power-2 {a} f = (
+    (λ e. power-number (subst (IsPower c r) e f) .1),
+    (λ o. power-told a (powered.Refused outOfRange) (rw o at (f .tells))),
+  )
+
+  pub power-not-0 : IsPower c r (powered.Refused 0) → ⊥
+  power-not-0 f = omega (arith, power-number f .0)
+
+-- ---- V0
+
+voltageBy : ℕ → Option ℕ → Voltage
+voltageBy n (some v) = voltage.Fifteenths v
+voltageBy n none = voltage.Refused n
+
+voltage-back : (a : Voltage) → voltageBy (toldVoltage a .number) (toldVoltage a .value) ≡ a
+unfolding voltageBy
+voltage-back (voltage.Fifteenths v) = refl
+voltage-back (voltage.Refused n) = refl
+
+pub voltage-told : (a b : Voltage) → toldVoltage a ≡ toldVoltage b → a ≡ b
+voltage-told a b e = sym (voltage-back a) ∙ ap (λ t. voltageBy (t .number) (t .value)) e ∙ voltage-back b
+
+module _ {k v : ℕ} where
+  pub voltage-one : {a b : Voltage} → IsVoltage k v a → IsVoltage k v b → a ≡ b
+  voltage-one {a} {b} f g = voltage-told a b (f .tells ∙ sym (g .tells))
+
+  -- no number but 2, and 2 exactly if resistor or contrast is outside its range
+  pub voltage-number : {n : ℕ} → IsVoltage k v (voltage.Refused n) → (n ≡ outOfRange) × ((7 < k) ⊎ (63 < v))
+  voltage-number {n} f =
+      let p = only (ltb 7 k || ltb 63 v) outOfRange n (numerator k v) (f .tells) in
+      (p .0, beyond (either (ltb 7 k) (ltb 63 v) (p .1)))
+    where
+      beyond : (ltb 7 k ≡ true) ⊎ (ltb 63 v ≡ true) → (7 < k) ⊎ (63 < v)
+      beyond (inl e) = inl (ltb-true 7 k e)
+      beyond (inr e) = inr (ltb-true 63 v e)
+
+  pub voltage-2 : {a : Voltage} → IsVoltage k v a → Exactly (a ≡ voltage.Refused outOfRange) ((7 < k) ⊎ (63 < v))
+  voltage-2 {a} f = (
+    (λ e. voltage-number (subst (IsVoltage k v) e f) .1),
+    (λ h. voltage-told a (voltage.Refused outOfRange) (rw (or-true (ltb 7 k) (ltb 63 v) (tests h)) at (f .tells))),
+  )
+    where
+      tests : (7 < k) ⊎ (63 < v) → (ltb 7 k ≡ true) ⊎ (ltb 63 v ≡ true)
+      tests (inl h) = inl (lt-ltb 7 k h)
+      tests (inr h) = inr (lt-ltb 63 v h)
+
+  pub voltage-not-0 : IsVoltage k v (voltage.Refused 0) → ⊥
+  voltage-not-0 f = omega (arith, voltage-number f .0)
+
+-- ---- the frame
+
+shownBy : ℕ → Option (Unit {0}) → Shown
+shownBy n (some x) = shown.Drawn
+shownBy n none = shown.Refused n
+
+shown-back : (a : Shown) → shownBy (toldShown a .number) (toldShown a .value) ≡ a
+unfolding shownBy
+shown-back shown.Drawn = refl
+shown-back (shown.Refused n) = refl
+
+pub shown-told : (a b : Shown) → toldShown a ≡ toldShown b → a ≡ b
+shown-told a b e = sym (shown-back a) ∙ ap (λ t. shownBy (t .number) (t .value)) e ∙ shown-back b
+
+-- what is told, by the tests: the sizes are wrong, a register is outside its range
+abbrev told : Bool → Bool → Told (Unit {0})
+told w o = cond w (refused wrongSize) (cond o (refused outOfRange) (given tt))
+
+told-by : (w o : Bool) → let n = cond w wrongSize (cond o outOfRange 0) in cond (eqb n 0) (given tt) (refused n) ≡ told w o
+told-by true o = refl
+told-by false true = refl
+told-by false false = refl
+
+-- a refusal's number, by the tests
+told-number : {X Y : Type 0} (w o : Bool) {n : ℕ} → (w ≡ true → X) → (w ≡ false → o ≡ true → Y)
+    → refused n ≡ told w o → ((n ≡ wrongSize) × X) ⊎ ((n ≡ outOfRange) × Y)
+told-number true o f g e = inl (ap (λ t. t .number) e, f refl)
+told-number false true f g e = inr (ap (λ t. t .number) e, g refl refl)
+told-number false false f g e = absurd (given-not e)
+
+-- memory and frame are as long as they must be, or one of them is not
+abbrev pub Sized : ℕ → ℕ → ℕ → Type 0
+Sized size m n = (m ≡ size) × (n ≡ size)
+
+abbrev pub Unsized : ℕ → ℕ → ℕ → Type 0
+Unsized size m n = (m ≢ size) ⊎ (n ≢ size)
+
+abbrev wrong : ℕ → ℕ → ℕ → Bool
+wrong size m n = not (eqb m size) || not (eqb n size)
+
+module _ (size m n : ℕ) where
+  is-wrong : wrong size m n ≡ true → Unsized size m n
+  is-wrong e = sizes (either (not (eqb m size)) (not (eqb n size)) e)
+    where
+      sizes : (not (eqb m size) ≡ true) ⊎ (not (eqb n size) ≡ true) → Unsized size m n
+      sizes (inl e) = inl (eqb-false m size (not-true (eqb m size) e))
+      sizes (inr e) = inr (eqb-false n size (not-true (eqb n size) e))
+
+  wrong-is : Unsized size m n → wrong size m n ≡ true
+  wrong-is (inl h) = or-true (not (eqb m size)) (not (eqb n size)) (inl (rw (ne-eqb m size h)))
+  wrong-is (inr h) = or-true (not (eqb m size)) (not (eqb n size)) (inr (rw (ne-eqb n size h)))
+
+  right-is : Sized size m n → wrong size m n ≡ false
+  right-is h = rw (eq-eqb m size (h .0), eq-eqb n size (h .1))
+
+module _ {c : Numbers} {r : Registers} {m frame : List ℕ} where
+  -- two answers that the promise admits are equal, and so are the frames that they leave
+  pub shown-one : {a b : Shown} {k l : List ℕ} → IsShown c r m frame a k → IsShown c r m frame b l → (a ≡ b) × (k ≡ l)
+  shown-one {a} {b} f g = (shown-told a b (f .tells ∙ sym (g .tells)), f .leaves ∙ sym (g .leaves))
+
+  tells-by : {a : Shown} {l : List ℕ} → IsShown c r m frame a l → toldShown a ≡ told (wrong (9 * c .width) (length m) (length frame)) (outside c r)
+  unfolding refusal
+  tells-by f = f .tells ∙ told-by (wrong (9 * c .width) (length m) (length frame)) (outside c r)
+
+  -- no number but 1 and 2
+  pub shown-number : {n : ℕ} {l : List ℕ} → IsShown c r m frame (shown.Refused n) l
+      → ((n ≡ wrongSize) × Unsized (9 * c .width) (length m) (length frame))
+      ⊎ ((n ≡ outOfRange) × (Sized (9 * c .width) (length m) (length frame) × (outside c r ≡ true)))
+  shown-number f =
+      told-number (wrong (9 * c .width) (length m) (length frame)) (outside c r)
+      (λ e. is-wrong _ _ _ e)
+      (λ e o. (right-sizes _ _ _ e, o))
+      (tells-by f)
+
+  -- 1 exactly if memory or frame is not nine pages
+  pub shown-1 : {a : Shown} {l : List ℕ} → IsShown c r m frame a l
+      → Exactly (a ≡ shown.Refused wrongSize) (Unsized (9 * c .width) (length m) (length frame))
+  shown-1 {a} {l} f = (
+    (λ e. size (shown-number (subst (λ (x : Shown). IsShown c r m frame x l) e f))),
+    (λ h. shown-told a (shown.Refused wrongSize) (rw (wrong-is _ _ _ h) at (tells-by f))),
+  )
+    where
+      size : {X Y : Type 0} → ((wrongSize ≡ wrongSize) × X) ⊎ ((wrongSize ≡ outOfRange) × Y) → X
+      size (inl p) = p .1
+      size (inr p) = absurd (omega (arith, p .0))
+
+  -- 2 exactly if both are and a register is outside its range
+  pub shown-2 : {a : Shown} {l : List ℕ} → IsShown c r m frame a l
+      → Exactly (a ≡ shown.Refused outOfRange) (Sized (9 * c .width) (length m) (length frame) × (outside c r ≡ true))
+  shown-2 {a} {l} f = (
+    (λ e. range (shown-number (subst (λ (x : Shown). IsShown c r m frame x l) e f))),
+    (λ h. shown-told a (shown.Refused outOfRange) (rw (right-is _ _ _ (h .0), h .1) at (tells-by f))),
+  )
+    where
+      range : {X Y : Type 0} → ((outOfRange ≡ wrongSize) × X) ⊎ ((outOfRange ≡ outOfRange) × Y) → Y
+      range (inl p) = absurd (omega (arith, p .0))
+      range (inr p) = p .1
+
+  pub shown-not-0 : {l : List ℕ} → IsShown c r m frame (shown.Refused 0) l → ⊥
+  shown-not-0 f = none (shown-number f)
+    where
+      none : {X Y : Type 0} → ((0 ≡ wrongSize) × X) ⊎ ((0 ≡ outOfRange) × Y) → ⊥
+      none (inl p) = omega (arith, p .0)
+      none (inr p) = omega (arith, p .0)
+
+  -- drawn, the whole frame is; refused, it is left
+  pub shown-drawn : {l : List ℕ} → IsShown c r m frame shown.Drawn l → l ≡ frameOf c r m
+  shown-drawn f =
+      let n = refusal c r (length m) (length frame) in
+      rw (is-given (eqb n 0) n tt (f .tells)) at (f .leaves)
+
+  pub shown-left : {n : ℕ} {l : List ℕ} → IsShown c r m frame (shown.Refused n) l → l ≡ frame
+  shown-left {n} f =
+      let k = refusal c r (length m) (length frame) in
+      rw (is-refused (eqb k 0) n k tt (f .tells)) at (f .leaves)

@@ -1,0 +1,128 @@
+-- What the lit frame says of its dots, so that a reader opens no definition: over any chip's numbers, where only sense is asked of them.
+-- Assumes nothing.
+use Prim.Native.Nat.{ℕ, _+_, _-_, _*_, _/_, _%_, _≤_, _<_}
+use mathlib.Core.Path.{_≡_, _∙_, refl, ap}
+use mathlib.Core.Logic.{_≢_}
+use mathlib.Core.Bool.{Bool, true, false, cond, not}
+use mathlib.Core.List.{List}
+use native.Mathlib.Nat.{mul-add-div, mul-add-mod-self-left, mod-eq-of-lt, div-eq-of-lt, add-zero}
+use native.Mathlib.Decide.{decLt}
+use native.Mathlib.Omega.{arith}
+use lib.ListN.{length, getD, replicate}
+use lib.Dec.{ltb, eqb}
+use borrow.Author.Tests.{lt-ltb, le-ltb, ne-eqb}
+use Rattle.instructions.specs.Numbers.{Sensible, numbers0713}
+use Rattle.instructions.specs.declared.numbers.Numbers.{Numbers}
+use Rattle.controller.proofs.Cells.{place}
+use Rattle.controller.specs.Registers.{withStartLine, withAdc, withShl, withReverse}
+use Rattle.controller.specs.declared.registers.Registers.{Registers}
+use Rattle.glass.specs.Dot.{bitOf, lineOf, columnOf, dotOf, dotAt, litOf}
+use Rattle.glass.specs.Frame.{sumOf, stripByte, frameOf}
+use Rattle.glass.proofs.Listed.{at, length-listed, listed-same}
+use Rattle.glass.proofs.Bits.{bit-is, sum-same}
+
+-- a value that both arms have
+same : {A : Type 0} (b : Bool) {x y z : A} → x ≡ z → y ≡ z → cond b x y ≡ z
+same true p q = p
+same false p q = q
+
+module _ (c : Numbers) (r : Registers) (m : List ℕ) where
+  -- ---- the bytes of the frame
+
+  pub frame-length : length (frameOf c r m) ≡ 9 * c .width
+  unfolding frameOf
+  frame-length = length-listed _ 0 (9 * c .width)
+
+  -- byte width · t + s of the frame is strip t under segment s
+  pub strip-at : (t s : ℕ) → t < 9 → s < c .width → getD (frameOf c r m) (c .width * t + s) 0 ≡ stripByte c r m t s
+  unfolding frameOf
+  strip-at t s ht hs =
+      let p : (0 < c .width) = omega arith in
+      at (λ (i : ℕ). stripByte c r m (i / c .width) (i % c .width)) (9 * c .width) (c .width * t + s) (place (c .width) t s ht hs)
+      ∙ ap (λ (k : ℕ). stripByte c r m k ((c .width * t + s) % c .width)) (mul-add-div p t s ∙ rw (div-eq-of-lt hs, add-zero))
+      ∙ ap (λ (k : ℕ). stripByte c r m t k) (mul-add-mod-self-left (c .width) t s ∙ mod-eq-of-lt hs)
+
+  -- and its bit b is the dot of row 8t + b under segment s
+  pub dot-at : (t s b : ℕ) → t < 9 → s < c .width → b < 8 → bitOf (getD (frameOf c r m) (c .width * t + s) 0) b ≡ litOf c r m (8 * t + b) s
+  unfolding stripByte
+  dot-at t s b ht hs hb = rw (strip-at t s ht hs) (bit-is (λ (k : ℕ). litOf c r m (8 * t + k) s) 8 b hb)
+
+  -- there are no rows but the commons and the icon row
+  pub no-row : (k s : ℕ) → c .rows ≤ k → k ≢ 64 → litOf c r m k s ≡ false
+  unfolding litOf
+  no-row k s le ne = rw (le-ltb k (c .rows) le, ne-eqb k 64 ne)
+
+  -- strip 8's bits 1 to 7 are 0
+  pub strip-8 : Sensible c → (s b : ℕ) → s < c .width → 1 ≤ b → b < 8 → bitOf (getD (frameOf c r m) (c .width * 8 + s) 0) b ≡ false
+  strip-8 h s b hs hb lt = dot-at 8 s b (omega arith) hs lt ∙ no-row (8 * 8 + b) s (omega (arith, h .lines)) (λ e. omega arith)
+
+  -- ---- off, entire, reverse
+
+  -- a display that is off shows no dot, whatever else is set
+  pub off-dark : r .on ≡ false → (k s : ℕ) → litOf c r m k s ≡ false
+  unfolding litOf dotAt dotOf
+  off-dark h k s = same (ltb k (c .rows)) (rw h) (same (eqb k 64) (rw h) refl)
+
+  pub off-frame : r .on ≡ false → frameOf c r m ≡ replicate (9 * c .width) 0
+  unfolding frameOf stripByte sumOf
+  off-frame h =
+      listed-same (λ (i : ℕ). stripByte c r m (i / c .width) (i % c .width)) 0 0 (9 * c .width)
+      (λ i. sum-same (λ (b : ℕ). litOf c r m (8 * (i / c .width) + b) (i % c .width)) (λ (b : ℕ). false) 8 (λ b lt. off-dark h (8 * (i / c .width) + b) (i % c .width)))
+
+  -- entire display lights every row of every segment while the display is on, the icon row too
+  pub entire-lit : r .on ≡ true → r .entire ≡ true → (k s : ℕ) → k < c .rows → litOf c r m k s ≡ true
+  unfolding litOf dotAt dotOf
+  entire-lit h e k s lt = rw (lt-ltb k (c .rows) lt, h, e)
+
+  pub entire-icon : r .on ≡ true → r .entire ≡ true → (s : ℕ) → litOf c r m 64 s ≡ true
+  unfolding litOf dotAt dotOf
+  entire-icon h e s = same (ltb 64 (c .rows)) (rw (h, e)) (rw (h, e))
+
+  -- reverse turns each dot of a display that is on and not entire, the icon row too
+  pub reverse-turns : r .on ≡ true → r .entire ≡ false → (k s : ℕ) → k < c .rows
+      → litOf c (withReverse r true) m k s ≡ not (litOf c (withReverse r false) m k s)
+  unfolding litOf dotAt dotOf
+  reverse-turns h e k s lt = rw (lt-ltb k (c .rows) lt, h, e)
+
+  pub reverse-icon : Sensible c → r .on ≡ true → r .entire ≡ false → (s : ℕ)
+      → litOf c (withReverse r true) m 64 s ≡ not (litOf c (withReverse r false) m 64 s)
+  unfolding litOf dotAt dotOf
+  reverse-icon g h e s = rw (le-ltb 64 (c .rows) (g .lines), h, e)
+
+  -- ---- start line and SHL
+
+  -- row k shows line (start + k) mod 64
+  pub row-shows : r .shl ≡ false → (k s : ℕ) → k < c .rows → litOf c r m k s ≡ dotAt (c .width) r m ((r .«start_line» + k) % 64) s
+  unfolding litOf lineOf
+  row-shows h k s lt = rw (lt-ltb k (c .rows) lt, h)
+
+  -- with SHL, (start + rows - 1 - k) mod 64
+  pub row-shows-back : r .shl ≡ true → (k s : ℕ) → k < c .rows → litOf c r m k s ≡ dotAt (c .width) r m ((r .«start_line» + (c .rows - 1 - k)) % 64) s
+  unfolding litOf lineOf
+  row-shows-back h k s lt = rw (lt-ltb k (c .rows) lt, h)
+
+  -- the icon row shows line 64, and so does not scroll
+  pub icon-shows : Sensible c → (s : ℕ) → litOf c r m 64 s ≡ dotAt (c .width) r m 64 s
+  unfolding litOf
+  icon-shows g s = rw (le-ltb 64 (c .rows) (g .lines))
+
+  pub icons-stay : Sensible c → (v s : ℕ) (f : Bool) → litOf c (withShl (withStartLine r v) f) m 64 s ≡ litOf c r m 64 s
+  unfolding litOf dotAt
+  icons-stay g v s f = rw (le-ltb 64 (c .rows) (g .lines))
+
+  -- ---- ADC
+
+  -- segment s with ADC 1 shows what segment width - 1 - s shows with ADC 0
+  pub adc-mirrors : (k s : ℕ) → litOf c (withAdc r true) m k s ≡ litOf c (withAdc r false) m k (c .width - 1 - s)
+  unfolding litOf dotAt columnOf
+  adc-mirrors k s = refl
+
+-- ---- the KS0713
+
+-- entire display lights all 65 rows
+pub entire-65 : (r : Registers) (m : List ℕ) → r .on ≡ true → r .entire ≡ true → (k s : ℕ) → k ≤ 64 → litOf numbers0713 r m k s ≡ true
+entire-65 r m h e k s le = row (decLt k 64)
+  where
+    row : Dec (k < 64) → litOf numbers0713 r m k s ≡ true
+    row (yes lt) = entire-lit numbers0713 r m h e k s lt
+    row (no ge) = let q : k ≡ 64 = omega arith in rw q (entire-icon numbers0713 r m h e s)

@@ -1,0 +1,49 @@
+-- The lit frame: a picture's layout, with segments for columns and rows for lines.
+-- Assumes nothing.
+use Prim.Native.Nat.{ℕ, zero, suc, _+_, _*_, _/_, _%_, _^_}
+use mathlib.Core.Path.{_≡_}
+use mathlib.Core.Bool.{Bool, cond, not, _||_}
+use mathlib.Core.List.{List, [], _∷_}
+use lib.ListN.{length}
+use lib.Dec.{eqb}
+use Rattle.instructions.specs.Refusal.{wrongSize, outOfRange}
+use Rattle.instructions.specs.Told.{Told, given, refused}
+use Rattle.instructions.specs.declared.numbers.Numbers.{Numbers}
+use Rattle.controller.specs.Registers.{outside}
+use Rattle.controller.specs.declared.registers.Registers.{Registers}
+use Rattle.glass.specs.Dot.{litOf}
+use Rattle.glass.specs.declared.frame.Shown.{Shown}
+use Rattle.glass.specs.declared.frame.Shown.the-variants.{Drawn, Refused}
+
+-- the number whose n lowest bits are f's
+unfoldable pub sumOf : (ℕ → Bool) → ℕ → ℕ
+sumOf f zero = 0
+sumOf f (suc n) = sumOf f n + cond (f n) (2 ^ n) 0
+
+-- strip t under segment s: bit b is row 8t + b. Strip 8 has the icon row in bit 0, and its bits 1 to 7 are 0
+unfoldable pub stripByte : Numbers → Registers → List ℕ → ℕ → ℕ → ℕ
+stripByte c r m t s = sumOf (λ b. litOf c r m (8 * t + b) s) 8
+
+-- f at i and the n - 1 numbers after it
+abbrev pub listed : (ℕ → ℕ) → ℕ → ℕ → List ℕ
+listed f i zero = []
+listed f i (suc n) = f i ∷ listed f (suc i) n
+
+-- byte width · strip + segment is that strip under that segment
+unfoldable pub frameOf : Numbers → Registers → List ℕ → List ℕ
+frameOf c r m = listed (λ i. stripByte c r m (i / c .width) (i % c .width)) 0 (9 * c .width)
+
+-- the number that a frame call is refused with: 1 for memory or frame, then 2, 0 for none
+unfoldable pub refusal : Numbers → Registers → ℕ → ℕ → ℕ
+refusal c r memory frame =
+    cond (not (eqb memory (9 * c .width)) || not (eqb frame (9 * c .width))) wrongSize (cond (outside c r) outOfRange 0)
+
+-- an answer as the paper tells it: drawn, or the number
+abbrev pub toldShown : Shown → Told (Unit {0})
+toldShown Drawn = given tt
+toldShown (Refused n) = refused n
+
+-- what frame promises: its answer, and the frame that it leaves; a refusal leaves it
+pub record IsShown (c : Numbers) (r : Registers) (m frame : List ℕ) (a : Shown) (left : List ℕ) : Type 0 where
+  pub tells : toldShown a ≡ cond (eqb (refusal c r (length m) (length frame)) 0) (given tt) (refused (refusal c r (length m) (length frame)))
+  pub leaves : left ≡ cond (eqb (refusal c r (length m) (length frame)) 0) (frameOf c r m) frame

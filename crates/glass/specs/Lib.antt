@@ -1,0 +1,4 @@
+pub mod Dot
+pub mod Frame
+pub mod Power
+pub mod Voltage

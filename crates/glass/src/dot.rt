@@ -1,0 +1,117 @@
+// One dot: which line a row shows, which column a segment shows, and when a dot is lit.
+ghost use mathlib.Core.Path.{_≡_};
+ghost use mathlib.Core.Bool.{cond};
+ghost use Prim.Native.Nat.{_*_, _^_, _≤_, _<_};
+ghost use lib.ListN.{length};
+ghost use Rattle.instructions.specs.Numbers.{Sensible};
+ghost use Rattle.glass.specs.Dot.{bitOf, lineOf, columnOf, cellBit, dotOf, dotAt, litOf};
+use crate::frame::Segment;
+use controller::registers::Column;
+use controller::registers::Registers;
+use instructions::numbers::Numbers;
+
+const POWERS: [u8; 8] = [1, 2, 4, 8, 16, 32, 64, 128];
+
+// What bit b counts.
+fn power_of(b: usize) -> u8
+    requires { ⌜ b < 8 ⌝ }
+    ensures { λ r. ⌜ r ≡ 2 ^ b ⌝ }
+{
+    POWERS[b]
+}
+
+// What bit b adds to its byte: nothing where it is not on.
+pub(crate) fn weight(on: bool, b: usize) -> u8
+    requires { ⌜ b < 8 ⌝ }
+    ensures { λ r. ⌜ r ≡ cond on (2 ^ b) 0 ⌝ }
+{
+    if on { power_of(b) } else { 0 }
+}
+
+// Bit b of a byte.
+fn bit_of(byte: u8, b: usize) -> bool
+    requires { ⌜ b < 8 ⌝ }
+    ensures { λ r. ⌜ r ≡ bitOf byte b ⌝ }
+{
+    byte / power_of(b) % 2 == 1
+}
+
+// Row k shows line (start + k) mod 64 if SHL is 0, (start + rows - 1 - k) mod 64 if 1.
+fn line_of(rows: usize, start: u8, shl: bool, row: usize) -> usize
+    requires { ⌜ (row < rows) × (rows ≤ 64) ⌝ }
+    ensures { λ r. ⌜ (r ≡ lineOf rows start shl row) × (r < 64) ⌝ }
+{
+    if shl {
+        (start as usize + (rows - 1 - row)) % 64
+    } else {
+        (start as usize + row) % 64
+    }
+}
+
+// The ADC rule: segment s shows column s if ADC is 0, the last column less s if 1.
+fn column_of(width: usize, adc: bool, segment: Segment) -> Column
+    requires { ⌜ (segment .0 < width) × (width ≤ 255) ⌝ }
+    ensures { λ c. ⌜ (c .0 ≡ columnOf width adc (segment .0)) × (c .0 < width) ⌝ }
+{
+    if adc {
+        Column((width - 1) as u8 - segment.0)
+    } else {
+        Column(segment.0)
+    }
+}
+
+// The bit of a line in a column: line 8p + b is bit b on page p, and line 64, the icons, is bit 0 on page 8.
+fn cell_bit(width: usize, memory: &[u8], line: usize, column: Column) -> bool
+    requires { ⌜ (line ≤ 64) × (column .0 < width) × (length (now memory) ≡ 9 * width) ⌝ }
+    ensures { λ r. ⌜ r ≡ cellBit width (now (memory .entry)) line (column .0) ⌝ }
+{
+    let at = width * (line / 8) + column.0 as usize;
+    bit_of(memory[at], line % 8)
+}
+
+// A dot is dark if the display is off; else lit if entire display is on; else its bit, inverted if reverse is on.
+fn dot(on: bool, entire: bool, reverse: bool, bit: bool) -> bool
+    ensures { λ d. ⌜ d ≡ dotOf on entire reverse bit ⌝ }
+{
+    if !on {
+        return false;
+    }
+    if entire {
+        return true;
+    }
+    if reverse {
+        return !bit;
+    }
+    bit
+}
+
+// The dot of a line under a segment.
+fn dot_at(width: usize, registers: Registers, memory: &[u8], line: usize, segment: Segment) -> bool
+    requires { ⌜ (line ≤ 64) × (segment .0 < width) × (width ≤ 255) × (length (now memory) ≡ 9 * width) ⌝ }
+    ensures { λ d. ⌜ d ≡ dotAt width registers (now (memory .entry)) line (segment .0) ⌝ }
+{
+    let column = column_of(width, registers.adc, segment);
+    let bit = cell_bit(width, memory, line, column);
+    dot(registers.on, registers.entire, registers.reverse, bit)
+}
+
+// The dot of a row under a segment: the commons scroll, the icon row, row 64, shows line 64 always, and there are no other rows.
+pub(crate) fn lit(
+    chip: Numbers,
+    registers: Registers,
+    memory: &[u8],
+    row: usize,
+    segment: Segment,
+) -> bool
+    requires { ⌜ Sensible chip × (segment .0 < chip .width) × (length (now memory) ≡ 9 * chip .width) ⌝ }
+    ensures { λ d. ⌜ d ≡ litOf chip registers (now (memory .entry)) row (segment .0) ⌝ }
+{
+    if row < chip.rows {
+        let line = line_of(chip.rows, registers.start_line, registers.shl, row);
+        return dot_at(chip.width, registers, memory, line, segment);
+    }
+    if row == 64 {
+        return dot_at(chip.width, registers, memory, 64, segment);
+    }
+    false
+}

@@ -1,0 +1,5 @@
+// The glass: which dots are lit, the power state, and V0.
+mod dot;
+pub mod frame;
+pub mod power;
+pub mod voltage;

@@ -1,0 +1,51 @@
+// The power state.
+ghost use mathlib.Core.Path.{_≡_};
+ghost use Rattle.instructions.specs.Numbers.{numbers0713};
+ghost use Rattle.glass.specs.Power.{powerOf, IsPower};
+use controller::registers::Registers;
+use controller::registers::outside_range;
+use instructions::numbers::Numbers;
+use instructions::numbers::ks0713;
+use instructions::refusal::OUT_OF_RANGE;
+
+pub enum PowerState {
+    Normal,
+    Sleep,
+    Standby,
+}
+
+// The power state, or the number of a refusal.
+pub enum Powered {
+    State(PowerState),
+    Refused(u8),
+}
+
+// Display off with entire display on is sleep if the indicator is off and standby if on; all else is normal.
+fn state_of(registers: Registers) -> PowerState
+    ensures { λ p. ⌜ p ≡ powerOf registers ⌝ }
+{
+    if !registers.on & registers.entire {
+        if registers.indicator {
+            return PowerState::Standby;
+        }
+        return PowerState::Sleep;
+    }
+    PowerState::Normal
+}
+
+// The power state of any chip.
+fn power_for(chip: Numbers, registers: Registers) -> Powered
+    ensures { λ a. ⌜ IsPower chip registers a ⌝ }
+{
+    if outside_range(chip, registers) {
+        return Powered::Refused(OUT_OF_RANGE);
+    }
+    Powered::State(state_of(registers))
+}
+
+// The power state of the KS0713. Refuses with 2.
+pub fn power_state(registers: Registers) -> Powered
+    ensures { λ a. ⌜ IsPower numbers0713 registers a ⌝ }
+{
+    power_for(ks0713(), registers)
+}

@@ -16,6 +16,7 @@ use Rattle.instructions.specs.declared.numbers.Numbers.{Numbers}
 use Rattle.instructions.specs.declared.instruction.Awaited.{Awaited}
 use Rattle.instructions.specs.declared.instruction.Awaited.the-variants as awaited
 use Rattle.instructions.specs.declared.instruction.Instruction.{Instruction}
+use Rattle.instructions.proofs.Telling.{apart}
 use Rattle.instructions.proofs.Fits.{either}
 use Rattle.instructions.proofs.Unique.{read-none, read-some}
 use Rattle.controller.specs.Registers.{outside, PoweredUp}
@@ -26,27 +27,26 @@ use Rattle.controller.specs.declared.cycle.Answer.the-variants.{Done, St
 
 -- ---- one answer
 
-back : ℕ → Option ℕ → Option Registers → Answer
-back n none none = Refused n
-back n none (some r) = Done r
-back n (some b) none = Status b
-back n (some b) (some r) = Read b r
+back : Outcome → Answer
+back o = by (o .number) (o .byte) (o .registers)
+  where
+    by : ℕ → Option ℕ → Option Registers → Answer
+    by n none none = Refused n
+    by n none (some r) = Done r
+    by n (some b) none = Status b
+    by n (some b) (some r) = Read b r
 
-back-is : (a : Answer) → back (outcome a .number) (outcome a .byte) (outcome a .registers) ≡ a
+back-is : (a : Answer) → back (outcome a) ≡ a
 unfolding back
 back-is (Done r) = refl
 back-is (Status b) = refl
 back-is (Read b r) = refl
 back-is (Refused n) = refl
 
--- answers that are told alike are equal
-pub answer-told : (a b : Answer) → outcome a ≡ outcome b → a ≡ b
-answer-told a b e = sym (back-is a) ∙ ap (λ o. back (o .number) (o .byte) (o .registers)) e ∙ back-is b
-
 -- two answers and two memories that a cycle's promise admits are equal
 pub cycled-one : {k : Numbers} {r : Registers} {m : List ℕ} {kind value : ℕ} {a b : Answer} {left right : List ℕ}
     → Cycled k r m kind value a left → Cycled k r m kind value b right → (a ≡ b) × (left ≡ right)
-cycled-one {a = a} {b = b} f g = (answer-told a b (f .tells ∙ sym (g .tells)), f .leaves ∙ sym (g .leaves))
+cycled-one {a = a} {b = b} f g = (apart outcome back back-is a b (f .tells ∙ sym (g .tells)), f .leaves ∙ sym (g .leaves))
 
 pub powered-one : {k : Numbers} {r s : Registers} → PoweredUp k r → PoweredUp k s → r ≡ s
 powered-one f g = f .tells ∙ sym (g .tells)

@@ -26,6 +26,7 @@ use Rattle.glass.specs.declared.power.Powered.{Powered}
 use Rattle.glass.specs.declared.power.Powered.the-variants as powered
 use Rattle.glass.specs.declared.voltage.Voltage.{Voltage}
 use Rattle.glass.specs.declared.voltage.Voltage.the-variants as voltage
+use Rattle.instructions.proofs.Telling.{apart, not-given}
 use Rattle.glass.proofs.Either.{either, or-true}
 use Rattle.glass.proofs.Places.{right-sizes}
 
@@ -35,35 +36,35 @@ Exactly A B = (A → B) × (B → A)
 -- ---- an answer that is refused with one number where a test holds, and else given
 
 module _ {A : Type 0} where
-  given-not : {x : A} {n : ℕ} → refused n ≡ given x → ⊥
-  given-not e = let f = ap (λ t. t .value) e in let z : _≡_ {A = ℕ} 0 1 = cc in omega arith
-
   only : (t : Bool) (n m : ℕ) (x : A) → refused m ≡ cond t (refused n) (given x) → (m ≡ n) × (t ≡ true)
   only true n m x e = (ap (λ t. t .number) e, refl)
-  only false n m x e = absurd (given-not e)
+  only false n m x e = absurd (not-given e)
 
   is-given : (t : Bool) (n : ℕ) (x : A) → given x ≡ cond t (given x) (refused n) → t ≡ true
   is-given true n x e = refl
-  is-given false n x e = absurd (given-not (sym e))
+  is-given false n x e = absurd (not-given (sym e))
 
   is-refused : (t : Bool) (n m : ℕ) (x : A) → refused n ≡ cond t (given x) (refused m) → t ≡ false
-  is-refused true n m x e = absurd (given-not e)
+  is-refused true n m x e = absurd (not-given e)
   is-refused false n m x e = refl
 
 -- ---- the power state
 
-poweredBy : ℕ → Option PowerState → Powered
-poweredBy n (some p) = powered.State p
-poweredBy n none = powered.Refused n
+poweredBy : Told PowerState → Powered
+poweredBy t = by (t .number) (t .value)
+  where
+    by : ℕ → Option PowerState → Powered
+    by n (some p) = powered.State p
+    by n none = powered.Refused n
 
-powered-back : (a : Powered) → poweredBy (toldPower a .number) (toldPower a .value) ≡ a
+powered-back : (a : Powered) → poweredBy (toldPower a) ≡ a
 unfolding poweredBy
 powered-back (powered.State p) = refl
 powered-back (powered.Refused n) = refl
 
 -- answers that are told alike are equal
-pub power-told : (a b : Powered) → toldPower a ≡ toldPower b → a ≡ b
-power-told a b e = sym (powered-back a) ∙ ap (λ t. poweredBy (t .number) (t .value)) e ∙ powered-back b
+power-told : (a b : Powered) → toldPower a ≡ toldPower b → a ≡ b
+power-told = apart toldPower poweredBy powered-back
 
 module _ {c : Numbers} {r : Registers} where
   -- two answers that the promise admits are equal
@@ -85,17 +86,20 @@ module _ {c : Numbers} {r : Registers} where
 
 -- ---- V0
 
-voltageBy : ℕ → Option ℕ → Voltage
-voltageBy n (some v) = voltage.Fifteenths v
-voltageBy n none = voltage.Refused n
+voltageBy : Told ℕ → Voltage
+voltageBy t = by (t .number) (t .value)
+  where
+    by : ℕ → Option ℕ → Voltage
+    by n (some v) = voltage.Fifteenths v
+    by n none = voltage.Refused n
 
-voltage-back : (a : Voltage) → voltageBy (toldVoltage a .number) (toldVoltage a .value) ≡ a
+voltage-back : (a : Voltage) → voltageBy (toldVoltage a) ≡ a
 unfolding voltageBy
 voltage-back (voltage.Fifteenths v) = refl
 voltage-back (voltage.Refused n) = refl
 
-pub voltage-told : (a b : Voltage) → toldVoltage a ≡ toldVoltage b → a ≡ b
-voltage-told a b e = sym (voltage-back a) ∙ ap (λ t. voltageBy (t .number) (t .value)) e ∙ voltage-back b
+voltage-told : (a b : Voltage) → toldVoltage a ≡ toldVoltage b → a ≡ b
+voltage-told = apart toldVoltage voltageBy voltage-back
 
 module _ {k v : ℕ} where
   pub voltage-one : {a b : Voltage} → IsVoltage k v a → IsVoltage k v b → a ≡ b
@@ -126,17 +130,20 @@ module _ {k v : ℕ} where
 
 -- ---- the frame
 
-shownBy : ℕ → Option (Unit {0}) → Shown
-shownBy n (some x) = shown.Drawn
-shownBy n none = shown.Refused n
+shownBy : Told (Unit {0}) → Shown
+shownBy t = by (t .number) (t .value)
+  where
+    by : ℕ → Option (Unit {0}) → Shown
+    by n (some x) = shown.Drawn
+    by n none = shown.Refused n
 
-shown-back : (a : Shown) → shownBy (toldShown a .number) (toldShown a .value) ≡ a
+shown-back : (a : Shown) → shownBy (toldShown a) ≡ a
 unfolding shownBy
 shown-back shown.Drawn = refl
 shown-back (shown.Refused n) = refl
 
-pub shown-told : (a b : Shown) → toldShown a ≡ toldShown b → a ≡ b
-shown-told a b e = sym (shown-back a) ∙ ap (λ t. shownBy (t .number) (t .value)) e ∙ shown-back b
+shown-told : (a b : Shown) → toldShown a ≡ toldShown b → a ≡ b
+shown-told = apart toldShown shownBy shown-back
 
 -- what is told, by the tests: the sizes are wrong, a register is outside its range
 abbrev told : Bool → Bool → Told (Unit {0})
@@ -152,7 +159,7 @@ told-number : {X Y : Type 0} (w o : Bool) {n : ℕ} → (w ≡ true → X) → (
     → refused n ≡ told w o → ((n ≡ wrongSize) × X) ⊎ ((n ≡ outOfRange) × Y)
 told-number true o f g e = inl (ap (λ t. t .number) e, f refl)
 told-number false true f g e = inr (ap (λ t. t .number) e, g refl refl)
-told-number false false f g e = absurd (given-not e)
+told-number false false f g e = absurd (not-given e)
 
 -- memory and frame are as long as they must be, or one of them is not
 abbrev pub Sized : ℕ → ℕ → ℕ → Type 0

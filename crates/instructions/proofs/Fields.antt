@@ -10,10 +10,7 @@ use borrow.Author.Tests.{lt-ltb, le-ltb, ltb-true, ltb-false}
 use Rattle.instructions.specs.Refusal.{outsideField}
 use Rattle.instructions.specs.Told.{Told, given, refused}
 use Rattle.instructions.specs.Write.{fieldOf}
-
--- two values that are given alike are equal
-pub given-one : {A : Type 0} {x y : A} → given x ≡ given y → x ≡ y
-given-one e = let f = ap (λ t. t .value) e in cc
+use Rattle.instructions.proofs.Telling.{given-one}
 
 -- a value inside its field is written as the base and the value
 pub field-given : (base count v : ℕ) → v < count → fieldOf base count v ≡ given (base + v)

@@ -1,6 +1,7 @@
 pub mod Tests
 pub mod Sensible
 pub mod Every
+pub mod Telling
 pub mod Classes
 pub mod Fields
 pub mod ReadBack

@@ -18,6 +18,7 @@ use Rattle.instructions.specs.declared.instruction.Awaited.the-variants 
 use Rattle.instructions.specs.declared.instruction.Instruction.{Instruction}
 use Rattle.instructions.proofs.Every.{every, at, left, right}
 use Rattle.instructions.proofs.Sensible.{sensible0713}
+use Rattle.instructions.proofs.Telling.{told-is}
 use Rattle.instructions.proofs.Fields.{field-given}
 use Rattle.instructions.proofs.ReadBack.{read-back}
 
@@ -38,10 +39,6 @@ is-same-byte none none t = refl
 is-same-byte none (some b) t = absurd t
 is-same-byte (some a) none t = absurd t
 is-same-byte (some a) (some b) t = ap some (eqb→eq a b t)
-
--- what is told, from its two parts
-pub told-is : {A : Type 0} (t : Told A) {n : ℕ} {v : Option A} → t .number ≡ n → t .value ≡ v → t ≡ record { number = n; value = v }
-told-is t {n} e f = ap (λ (x : ℕ). record { number = x; value = t .value }) e ∙ ap (λ x. record { number = n; value = x }) f
 
 is-same : (s t : Told ℕ) → T (same s t) → s ≡ t
 unfolding same

@@ -14,7 +14,8 @@ use Rattle.instructions.specs.declared.numbers.Numbers.{Numbers}
 use Rattle.instructions.specs.declared.instruction.Instruction.{Instruction}
 use Rattle.instructions.specs.declared.instruction.Instruction.the-variants.{ColumnLow, ColumnHigh, Resistor, Power, StartLine, ContrastNext, ContrastValue, Adc, Bias, Entire, Reverse, IndicatorOff, IndicatorOn, IndicatorValue, Display, Page, Shl, ModifyReadOn, ModifyReadOff, Reset, Nop}
 use Rattle.instructions.proofs.Classes.{alike, of-class}
-use Rattle.instructions.proofs.Fields.{given-one, field-is}
+use Rattle.instructions.proofs.Fields.{field-is}
+use Rattle.instructions.proofs.Telling.{given-one}
 
 -- the counter has room for a high part inside its field
 pub room-kept : (highs h : ℕ) → h < highs → roomIn highs h ≡ h

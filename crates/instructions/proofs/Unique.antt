@@ -6,7 +6,6 @@ use mathlib.Core.Path.{_≡_, _∙_, refl, ap, sym, subst}
 use mathlib.Core.Logic.{_≢_}
 use mathlib.Core.Bool.{Bool, true, false, cond, not, _&&_}
 use mathlib.Core.Option.{Option, none, some}
-use native.Mathlib.Omega.{arith}
 use lib.Dec.{T, ltb, eqb, eqb→eq}
 use Rattle.instructions.specs.Refusal.{unassigned, outsideField}
 use Rattle.instructions.specs.Told.{Told, given, refused}
@@ -22,43 +21,44 @@ use Rattle.instructions.specs.declared.read.Reading.the-variants.{ReadAs
 use Rattle.instructions.specs.declared.write.Writing.{Writing}
 use Rattle.instructions.specs.declared.write.Writing.the-variants.{WrittenAs, Unwritten}
 use Rattle.instructions.proofs.Every.{at, left, right}
-use Rattle.instructions.proofs.Pinned.{told-is, whole}
+use Rattle.instructions.proofs.Pinned.{whole}
+use Rattle.instructions.proofs.Telling.{apart, refused-one, not-given, told-is}
 
 -- ---- the reader
 
-readingBy : ℕ → Option Instruction → Reading
-readingBy n (some i) = ReadAs i
-readingBy n none = Unread n
+readingBy : Told Instruction → Reading
+readingBy t = by (t .number) (t .value)
+  where
+    by : ℕ → Option Instruction → Reading
+    by n (some i) = ReadAs i
+    by n none = Unread n
 
-reading-back : (r : Reading) → readingBy (toldReading r .number) (toldReading r .value) ≡ r
+reading-back : (r : Reading) → readingBy (toldReading r) ≡ r
 unfolding readingBy
 reading-back (ReadAs i) = refl
 reading-back (Unread n) = refl
 
--- readings that are told alike are equal
-pub reading-told : (r s : Reading) → toldReading r ≡ toldReading s → r ≡ s
-reading-told r s e = sym (reading-back r) ∙ ap (λ t. readingBy (t .number) (t .value)) e ∙ reading-back s
-
 -- two readings that the promise admits are equal
 pub read-one : {k : Numbers} {a : Awaited} {b : ℕ} {r s : Reading} → IsRead k a b r → IsRead k a b s → r ≡ s
-read-one {r = r} {s = s} f g = reading-told r s (f .tells ∙ sym (g .tells))
+read-one {r = r} {s = s} f g = apart toldReading readingBy reading-back r s (f .tells ∙ sym (g .tells))
 
 -- ---- the writer
 
-writingBy : ℕ → Option ℕ → Writing
-writingBy n (some b) = WrittenAs b
-writingBy n none = Unwritten n
+writingBy : Told ℕ → Writing
+writingBy t = by (t .number) (t .value)
+  where
+    by : ℕ → Option ℕ → Writing
+    by n (some b) = WrittenAs b
+    by n none = Unwritten n
 
-writing-back : (w : Writing) → writingBy (toldWriting w .number) (toldWriting w .value) ≡ w
+writing-back : (w : Writing) → writingBy (toldWriting w) ≡ w
 unfolding writingBy
 writing-back (WrittenAs b) = refl
 writing-back (Unwritten n) = refl
 
-pub writing-told : (w v : Writing) → toldWriting w ≡ toldWriting v → w ≡ v
-writing-told w v e = sym (writing-back w) ∙ ap (λ t. writingBy (t .number) (t .value)) e ∙ writing-back v
-
+-- two writings that the promise admits are equal
 pub written-one : {k : Numbers} {i : Instruction} {w v : Writing} → IsWritten k i w → IsWritten k i v → w ≡ v
-written-one {w = w} {v = v} f g = writing-told w v (f .tells ∙ sym (g .tells))
+written-one {w = w} {v = v} f g = apart toldWriting writingBy writing-back w v (f .tells ∙ sym (g .tells))
 
 -- ---- number 4: an instruction byte unassigned and nothing awaited, and only then
 
@@ -94,8 +94,8 @@ module _ (k : Numbers) (b : ℕ) (h : b < 256) where
   unread-4 awaited.Nothing n f =
       let p = read-none (sym (ap (λ t. t .value) (f .tells))) in
       (ap (λ t. t .number) (f .tells) ∙ p .1, refl, p .0)
-  unread-4 awaited.Contrast n f = absurd (let e = ap (λ t. t .value) (f .tells) in let z : _≡_ {A = ℕ} 0 1 = cc in omega arith)
-  unread-4 awaited.Indicator n f = absurd (let e = ap (λ t. t .value) (f .tells) in let z : _≡_ {A = ℕ} 0 1 = cc in omega arith)
+  unread-4 awaited.Contrast n f = absurd (not-given (f .tells))
+  unread-4 awaited.Indicator n f = absurd (not-given (f .tells))
 
   by-value : assigned b ≡ false → (x : Option Instruction) → readOf k awaited.Nothing b .value ≡ x → readOf k awaited.Nothing b ≡ refused unassigned
   by-value e none f = told-is (readFirst k b) (read-none f .1) f
@@ -107,20 +107,17 @@ module _ (k : Numbers) (b : ℕ) (h : b < 256) where
 -- ---- number 6: a value to write outside its field, and only then
 
 in-or-6 : (t : Bool) (x n : ℕ) → refused n ≡ cond t (given x) (refused outsideField) → n ≡ outsideField
-in-or-6 true x n e = absurd (let f = ap (λ t. t .value) e in let z : _≡_ {A = ℕ} 0 1 = cc in omega arith)
-in-or-6 false x n e = ap (λ t. t .number) e
+in-or-6 true x n e = absurd (not-given e)
+in-or-6 false x n e = refused-one e
 
 field-not : (base count v n : ℕ) → refused n ≡ fieldOf base count v → n ≡ outsideField
 unfolding fieldOf
 field-not base count v n e = in-or-6 (ltb v count) (base + v) n e
 
-given-not : {x n : ℕ} → refused n ≡ given x → n ≡ outsideField
-given-not e = absurd (let f = ap (λ t. t .value) e in let z : _≡_ {A = ℕ} 0 1 = cc in omega arith)
-
 flag-not : (off on : ℕ) (f : Bool) (n : ℕ) → refused n ≡ flagOf off on f → n ≡ outsideField
 unfolding flagOf
-flag-not off on true n e = given-not e
-flag-not off on false n e = given-not e
+flag-not off on true n e = absurd (not-given e)
+flag-not off on false n e = absurd (not-given e)
 
 refused-6 : (k : Numbers) (i : Instruction) (n : ℕ) → refused n ≡ writeOf k i → n ≡ outsideField
 refused-6 k (ColumnLow v) n e = field-not 0x00 16 v n e
@@ -128,22 +125,22 @@ refused-6 k (ColumnHigh v) n e = field-not 0x10 (k .highs) v n e
 refused-6 k (Resistor v) n e = field-not 0x20 8 v n e
 refused-6 k (Power v) n e = field-not 0x28 8 v n e
 refused-6 k (StartLine v) n e = field-not 0x40 64 v n e
-refused-6 k ContrastNext n e = given-not e
+refused-6 k ContrastNext n e = absurd (not-given e)
 refused-6 k (ContrastValue v) n e = field-not 0x00 64 v n e
 refused-6 k (Adc f) n e = flag-not 0xa0 0xa1 f n e
 refused-6 k (Bias f) n e = flag-not 0xa2 0xa3 f n e
 refused-6 k (Entire f) n e = flag-not 0xa4 0xa5 f n e
 refused-6 k (Reverse f) n e = flag-not 0xa6 0xa7 f n e
-refused-6 k IndicatorOff n e = given-not e
-refused-6 k IndicatorOn n e = given-not e
+refused-6 k IndicatorOff n e = absurd (not-given e)
+refused-6 k IndicatorOn n e = absurd (not-given e)
 refused-6 k (IndicatorValue v) n e = field-not 0x00 4 v n e
 refused-6 k (Display f) n e = flag-not 0xae 0xaf f n e
 refused-6 k (Page v) n e = field-not 0xb0 16 v n e
 refused-6 k (Shl f) n e = flag-not 0xc0 0xc8 f n e
-refused-6 k ModifyReadOn n e = given-not e
-refused-6 k ModifyReadOff n e = given-not e
-refused-6 k Reset n e = given-not e
-refused-6 k Nop n e = given-not e
+refused-6 k ModifyReadOn n e = absurd (not-given e)
+refused-6 k ModifyReadOff n e = absurd (not-given e)
+refused-6 k Reset n e = absurd (not-given e)
+refused-6 k Nop n e = absurd (not-given e)
 
 pub unwritten-6 : (k : Numbers) (i : Instruction) (n : ℕ) → IsWritten k i (Unwritten n) → n ≡ outsideField
 unwritten-6 k i n f = refused-6 k i n (f .tells)

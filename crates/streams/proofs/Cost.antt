@@ -12,6 +12,7 @@ use lib.Dec.{eqb}
 use borrow.Author.Tests.{eqb-true, eqb-false}
 use Rattle.streams.specs.Update.{Run, joins, join, joinIf, runs}
 use Rattle.streams.specs.Length.{differing, gaps, gapCost, pageLength}
+use Rattle.streams.specs.Tally.{toPay}
 use Rattle.streams.proofs.Cases.{split, less}
 use Rattle.streams.proofs.Sums.{sum, sum-le, sum-add, sum-zero}
 use Rattle.streams.proofs.Runs.{joins-near, joins-far, Fits, runs-fit, inRun, in-before, in-inside, in-after, in-le, hits}
@@ -20,11 +21,6 @@ use Rattle.streams.proofs.Runs.{joins-near, joins-far, Fits, runs-fit, 
 unfoldable pub weight : List Run → ℕ
 weight [] = 0
 weight (r ∷ rs) = 2 + r .size + weight rs
-
--- what the n columns from c on still cost, g equal columns after a differing one
-unfoldable pub toPay : (ℕ → Bool) → ℕ → ℕ → ℕ → ℕ
-toPay d g c zero = 0
-toPay d g c (suc n) = cond (d c) (min g 2 + 1 + toPay d 0 (suc c) n) (toPay d (suc g) (suc c) n)
 
 -- it grows with the gap as min(gap, 2) does
 pub toPay-gap : (d : ℕ → Bool) (k g h c n : ℕ) → min h 2 ≤ min g 2 + k → toPay d h c n ≤ toPay d g c n + k

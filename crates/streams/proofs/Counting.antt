@@ -9,14 +9,10 @@ use native.Mathlib.Numerals.{add-one}
 use native.Mathlib.Omega.{arith}
 use Rattle.streams.specs.Picture.{differs}
 use Rattle.streams.specs.Length.{pageLength, lengthFrom, updateLength}
-use Rattle.streams.proofs.Cost.{toPay, toPay-gap, pageLength-pays, pageLength-most}
+use Rattle.streams.specs.Tally.{toPay, still, Counted}
+use Rattle.streams.proofs.Cost.{toPay-gap, pageLength-pays, pageLength-most}
 
 -- ---- a page
-
--- what the m columns from c on still cost: n bytes are counted, and g equal columns lie behind
-unfoldable pub still : (ℕ → Bool) → ℕ → ℕ → ℕ → ℕ → ℕ
-still d zero g c m = min 1 (toPay d 2 c m) + toPay d 2 c m
-still d (suc n) g c m = toPay d g c m
 
 still-same : (d : ℕ → Bool) (n g c m : ℕ) → d c ≡ false → still d n g c (suc m) ≡ still d n (suc g) (suc c) m
 unfolding still toPay
@@ -32,10 +28,6 @@ unfolding still toPay
 still-more d zero k g c m e z y = absurd (omega arith)
 still-more d (suc n) zero g c m e z y = absurd (omega arith)
 still-more d (suc n) (suc k) g c m e z y = rw e
-
--- n bytes are counted before column c, with g equal columns behind
-unfoldable pub Counted : (ℕ → Bool) → ℕ → ℕ → ℕ → ℕ → Type 0
-Counted d W n g c = n + still d n g c (W - c) ≡ pageLength d W
 
 module _ (d : ℕ → Bool) (W : ℕ) where
   pub count-none : (g : ℕ) → Counted d W 0 g 0

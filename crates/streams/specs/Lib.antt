@@ -2,6 +2,7 @@ pub mod Picture
 pub mod Stretch
 pub mod Update
 pub mod Length
+pub mod Tally
 pub mod Redraw
 pub mod Paint
 pub mod Walk

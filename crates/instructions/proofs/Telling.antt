@@ -1,0 +1,25 @@
+-- Laws of what is told of an answer: a value that is given is no refusal, what is told is fixed by its two parts, and a telling
+-- that has an inverse tells all answers apart.
+-- Assumes nothing.
+use Prim.Native.Nat.{ℕ}
+use mathlib.Core.Path.{_≡_, _∙_, ap, sym}
+use mathlib.Core.Option.{Option, none, some}
+use native.Mathlib.Omega.{arith}
+use Rattle.instructions.specs.Told.{Told, given, refused}
+
+-- answers that are told alike are equal, where what is told leads back to the answer
+pub apart : {A B : Type 0} (told : A → B) (back : B → A) → ((a : A) → back (told a) ≡ a) → (a b : A) → told a ≡ told b → a ≡ b
+apart told back is a b e = sym (is a) ∙ ap back e ∙ is b
+
+module _ {A : Type 0} where
+  pub given-one : {x y : A} → given x ≡ given y → x ≡ y
+  given-one e = let f = ap (λ t. t .value) e in cc
+
+  pub refused-one : {n m : ℕ} → refused {A = A} n ≡ refused m → n ≡ m
+  refused-one e = ap (λ t. t .number) e
+
+  pub not-given : {x : A} {n : ℕ} → refused n ≡ given x → ⊥
+  not-given {x} e = let f : none ≡ some x = ap (λ t. t .value) e in let z : _≡_ {A = ℕ} 0 1 = cc in omega arith
+
+  pub told-is : (t : Told A) {n : ℕ} {v : Option A} → t .number ≡ n → t .value ≡ v → t ≡ record { number = n; value = v }
+  told-is t {n} e f = ap (λ (x : ℕ). record { number = x; value = t .value }) e ∙ ap (λ x. record { number = n; value = x }) f

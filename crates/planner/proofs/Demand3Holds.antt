@@ -1,0 +1,159 @@
+-- Demand 3 holds, about plain registers, the controller's own run, and the bytes that the calls put into their outputs: the
+-- streams' theorems at the KS0713, where its laws (controller, Chips) meet them.
+-- Assumes nothing.
+use Prim.Native.Nat.{ℕ, zero, suc, _+_, _*_, _≤_, _<_}
+use mathlib.Core.Path.{_≡_, _∙_, refl, ap, sym, subst}
+use mathlib.Core.Bool.{Bool, true, false, cond}
+use mathlib.Core.Option.{none}
+use mathlib.Core.List.{List, [], _∷_, _++_, map}
+use native.Mathlib.Omega.{arith}
+use lib.Dec.{lit≤, ltb, eqb}
+use borrow.Author.Tests.{eqb-true, ltb-false}
+use lib.ListN.{length, take, drop, replicate}
+use Rattle.instructions.specs.Refusal.{wrongSize, outsideField, shortOutput}
+use Rattle.instructions.specs.Told.{given, refused}
+use Rattle.instructions.specs.Numbers.{numbers0713}
+use Rattle.instructions.specs.declared.instruction.Awaited.{Awaited}
+use Rattle.instructions.specs.declared.instruction.Awaited.the-variants as awaited
+use Rattle.instructions.proofs.Telling.{given-one, not-given}
+use Rattle.controller.specs.Run.{BusCycle}
+use Rattle.controller.specs.State.{State, state, run, numbers, Ready, Restartable, placed, rest, settings}
+use Rattle.controller.specs.declared.registers.Registers.{Registers}
+use Rattle.controller.proofs.Chips.{chip0713, restart0713, viewOf, moved, redrawn}
+use Rattle.streams.specs.Picture.{shown, Same, Between}
+use Rattle.streams.specs.Stretch.{Stretch, OfKind, emit}
+use Rattle.streams.specs.Update.{update, updateStream}
+use Rattle.streams.specs.Length.{updateLength}
+use Rattle.streams.specs.Redraw.{redraw, redrawStream}
+use Rattle.streams.specs.Paint.{paint, drawnAll}
+use Rattle.streams.specs.Demand.{Recorded, Restarts, Leaves, Stopped, Updated, Cut, Redrawn}
+use Rattle.streams.proofs.Length.{update-length, update-most, redraw-length}
+use Rattle.streams.proofs.Updating.{update-right, update-least, update-cut, cut-accepted}
+use Rattle.streams.proofs.Redrawing.{redraw-right, redraw-cut}
+use Rattle.planner.specs.Pictures.{misfit}
+use Rattle.planner.specs.Sent.{kindOf, byteOf, tooShort, over, Sent, redrawRefusal, IsUpdate, IsRedraw}
+use Rattle.planner.specs.Demand3.{PinHigh, Holding, played, Accepted, pairs, ended, Updates, redrawnFrom, Redraws}
+use Rattle.planner.specs.declared.count.Count.the-variants.{Bytes}
+
+-- ---- the premises are the chip's own
+
+pub restarts : (r : Registers) (m : List ℕ) → PinHigh r m → Restarts chip0713 restart0713 (state r m)
+restarts r m h = record { restartable = record { long = h .long; ranged = h .ranged; high = h .high }; sized = h .long }
+
+pub records : (r : Registers) (m recorded : List ℕ) → Holding r m recorded → Recorded chip0713 (state r m) recorded
+records r m recorded h = record {
+  ready = record { restartable = restarts r m (h .pin) .restartable; quiet = h .quiet };
+  sized = h .pin .long;
+  same = h .same;
+}
+
+-- and back
+pub pin-high : (s : State) → Restarts chip0713 restart0713 s → PinHigh (s .registers) (s .memory)
+pin-high s h = record { ranged = h .restartable .ranged; high = h .restartable .high; long = h .restartable .long }
+
+pub holding : (s : State) (picture : List ℕ) → Recorded chip0713 s picture → Holding (s .registers) (s .memory) picture
+holding s picture h = record {
+  pin = record { ranged = h .ready .restartable .ranged; high = h .ready .restartable .high; long = h .sized };
+  quiet = h .ready .quiet;
+  same = h .same;
+}
+
+-- ---- the update
+
+pub update-updates : (r : Registers) (m recorded wanted : List ℕ) → Holding r m recorded → Updates r m recorded wanted (updateStream 132 recorded wanted)
+update-updates r m recorded wanted h =
+    let s = state r m in
+    let cycles = updateStream 132 recorded wanted in
+    let t = played r m cycles in
+    let p = records r m recorded h in
+    let u = update-right chip0713 s recorded wanted p in
+    let n = update-length 132 recorded wanted in
+    record {
+      accepted = u .leaves .accepted;
+      holds = holding t wanted (u .leaves .recorded);
+      memory = u .memory;
+      registers = moved (t .registers) r (u .rest) (ap (λ v. v .page) (u .exact)) (ap (λ v. v .column) (u .exact)) (ap (λ v. v .holder) (u .exact));
+      count = n;
+      most = omega (arith, n, update-most 132 recorded wanted);
+      least = λ xs ok e. omega (arith, n, update-least chip0713 s recorded wanted p xs ok e);
+      cut = λ n. update-cut chip0713 s recorded wanted p n .between;
+      cut-accepted = λ n. cut-accepted chip0713 s recorded wanted p n;
+      cut-pin = λ n. let c = update-cut chip0713 s recorded wanted p n in pin-high (played r m (take n cycles)) (record { restartable = c .ready .restartable; sized = c .sized });
+    }
+
+-- ---- the redraw
+
+pub redraw-redraws : (r : Registers) (m wanted : List ℕ) (contrast : ℕ) → PinHigh r m → contrast < 64 → Redraws r m wanted contrast (redrawStream 132 wanted contrast)
+redraw-redraws r m wanted contrast h small =
+    let s = state r m in
+    let cycles = redrawStream 132 wanted contrast in
+    let t = played r m cycles in
+    let u = redraw-right chip0713 restart0713 (lit≤ tt) s (restarts r m h) wanted contrast small in
+    record {
+      accepted = u .leaves .accepted;
+      holds = holding t wanted (u .leaves .recorded);
+      memory = u .memory;
+      registers = redrawn (t .registers) r (u .settings) (u .page) (u .column) (u .holder) (u .contrast) (u .indicator) (u .value) (u .leaves .recorded .ready .quiet);
+      count = redraw-length 132 wanted contrast;
+      cut-accepted = λ n. redraw-cut chip0713 restart0713 (lit≤ tt) s (restarts r m h) wanted contrast small n .accepted;
+      cut-pin = λ n. pin-high (played r m (take n cycles)) (redraw-cut chip0713 restart0713 (lit≤ tt) s (restarts r m h) wanted contrast small n .restarts);
+    }
+
+-- ---- the calls: what they put into their outputs is the stream
+
+pairs-are : (s : List BusCycle) (x y : List ℕ) → pairs (length s) (map kindOf s ++ x) (map byteOf s ++ y) ≡ s
+unfolding pairs
+pairs-are [] x y = refl
+pairs-are (c ∷ s) x y = ap (λ l. c ∷ l) (pairs-are s x y)
+
+module _ {number : ℕ} {s : List BusCycle} {out kinds : List ℕ} {n : ℕ} {out′ kinds′ : List ℕ} (sent : Sent number s out kinds (Bytes n) out′ kinds′) where
+  sent-by : (t : Bool) → eqb number 0 ≡ t → (number ≡ 0) × (pairs n kinds′ out′ ≡ s)
+  unfolding over
+  sent-by true e =
+      let count : n ≡ length s = given-one (sent .tells ∙ rw e refl) in
+      (eqb-true number 0 e, rw (count, sent .kinds-left, sent .bytes, e) (pairs-are s (drop (length (map kindOf s)) kinds) (drop (length (map byteOf s)) out)))
+  sent-by false e = absurd (not-given {n = number} (sym (sent .tells ∙ rw e refl)))
+
+  -- a number of bytes is answered where nothing is refused, and the first of both outputs are the stream
+  pub sent-is : (number ≡ 0) × (pairs n kinds′ out′ ≡ s)
+  sent-is = sent-by (eqb number 0) refl
+
+pub sent-updates : (r : Registers) (m recorded wanted out kinds : List ℕ) (n : ℕ) (out′ kinds′ : List ℕ) → Holding r m recorded
+    → IsUpdate 132 recorded wanted out kinds (Bytes n) out′ kinds′ → Updates r m recorded wanted (pairs n kinds′ out′)
+sent-updates r m recorded wanted out kinds n out′ kinds′ h sent =
+    subst (Updates r m recorded wanted) (sym (sent-is sent .1)) (update-updates r m recorded wanted h)
+
+-- a redraw that is not refused has a contrast inside its field
+contrast-by : (a b c : Bool) → cond a wrongSize (cond b outsideField (cond c shortOutput 0)) ≡ 0 → b ≡ false
+contrast-by true b c e = absurd (let z : _≡_ {A = ℕ} 1 0 = e in omega arith)
+contrast-by false true c e = absurd (let z : _≡_ {A = ℕ} 6 0 = e in omega arith)
+contrast-by false false c e = refl
+
+contrast-small : (wanted : List ℕ) (contrast : ℕ) (out kinds : List ℕ) → redrawRefusal 132 wanted contrast out kinds ≡ 0 → contrast < 64
+unfolding redrawRefusal
+contrast-small wanted contrast out kinds e =
+    omega (arith, ltb-false 63 contrast (contrast-by (misfit 132 wanted) (ltb 63 contrast) (tooShort (redrawStream 132 wanted contrast) out kinds) e))
+
+pub sent-redraws : (r : Registers) (m wanted : List ℕ) (contrast : ℕ) (out kinds : List ℕ) (n : ℕ) (out′ kinds′ : List ℕ) → PinHigh r m
+    → IsRedraw 132 wanted contrast out kinds (Bytes n) out′ kinds′ → Redraws r m wanted contrast (pairs n kinds′ out′)
+sent-redraws r m wanted contrast out kinds n out′ kinds′ h sent =
+    subst (Redraws r m wanted contrast) (sym (sent-is sent .1)) (redraw-redraws r m wanted contrast h (contrast-small wanted contrast out kinds (sent-is sent .0)))
+
+-- ---- the mission's own sentence: an update or a redraw cut off after any byte, then a redraw, leaves the wanted picture
+
+-- after any cycles that leave the pin high
+pub then-redraw : (r : Registers) (m wanted : List ℕ) (contrast : ℕ) (out kinds : List ℕ) (n : ℕ) (out′ kinds′ : List ℕ) (cycles : List BusCycle)
+    → PinHigh (played r m cycles .registers) (played r m cycles .memory) → IsRedraw 132 wanted contrast out kinds (Bytes n) out′ kinds′
+    → Redraws (played r m cycles .registers) (played r m cycles .memory) wanted contrast (pairs n kinds′ out′)
+then-redraw r m wanted contrast out kinds n out′ kinds′ cycles h sent =
+    sent-redraws (played r m cycles .registers) (played r m cycles .memory) wanted contrast out kinds n out′ kinds′ h sent
+
+module _ (r : Registers) (m : List ℕ) (u : List ℕ) (contrast : ℕ) (out kinds : List ℕ) (n : ℕ) (out′ kinds′ : List ℕ)
+    (sent : IsRedraw 132 u contrast out kinds (Bytes n) out′ kinds′) where
+  pub cut-update-redraws : (recorded wanted : List ℕ) (cycles : List BusCycle) (i : ℕ) → Updates r m recorded wanted cycles
+      → Redraws (played r m (take i cycles) .registers) (played r m (take i cycles) .memory) u contrast (pairs n kinds′ out′)
+  cut-update-redraws recorded wanted cycles i h = then-redraw r m u contrast out kinds n out′ kinds′ (take i cycles) (h .cut-pin i) sent
+
+  pub cut-redraw-redraws : (wanted : List ℕ) (given : ℕ) (cycles : List BusCycle) (i : ℕ) → Redraws r m wanted given cycles
+      → Redraws (played r m (take i cycles) .registers) (played r m (take i cycles) .memory) u contrast (pairs n kinds′ out′)
+  cut-redraw-redraws wanted given cycles i h = then-redraw r m u contrast out kinds n out′ kinds′ (take i cycles) (h .cut-pin i) sent

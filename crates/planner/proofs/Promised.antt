@@ -1,0 +1,327 @@
+-- What the four promises fix. Two answers that a promise admits are equal, and so are the outputs they leave; each number is
+-- answered exactly when its line of document 01's table holds and none earlier in the order does; the first difference is the first
+-- in reading order; outputs that are long enough get their stream. All from the promises alone: what is told of an answer has an
+-- inverse, and each promise names the number.
+-- Assumes nothing.
+use Prim.Native.Nat.{ℕ, _+_, _*_, _≤_, _<_}
+use mathlib.Core.Path.{_≡_, refl, sym, ap, subst, _∙_}
+use mathlib.Core.Logic.{_≢_, _⊎_, inl, inr, ⊎-elim}
+use mathlib.Core.Bool.{Bool, false, cond, _||_}
+use mathlib.Core.Option.{Option, none, some}
+use mathlib.Core.List.{List, map}
+use native.Mathlib.Omega.{arith}
+use lib.ListN.{length}
+use lib.Dec.{ltb, eqb}
+use borrow.Author.Tests.{ltb-true, ltb-false, lt-ltb, le-ltb, eqb-true, eqb-false}
+use Rattle.instructions.specs.Told.{Told, given}
+use Rattle.instructions.proofs.Telling.{apart}
+use Rattle.controller.specs.Run.{BusCycle}
+use Rattle.streams.specs.Picture.{shown, Same}
+use Rattle.streams.specs.Stretch.{Place}
+use Rattle.streams.specs.Update.{updateStream}
+use Rattle.streams.specs.Length.{updateLength}
+use Rattle.streams.specs.Redraw.{redrawStream}
+use Rattle.streams.proofs.Cases.{split}
+use Rattle.streams.proofs.Pictures.{differs-true, differs-false, same-nowhere, nowhere-same}
+use Rattle.streams.proofs.Length.{update-length, update-most, redraw-length}
+use Rattle.planner.specs.Pictures.{misfit}
+use Rattle.planner.specs.First.{firstFrom, firstDifference, toldFound, IsFirst}
+use Rattle.planner.specs.Count.{toldCount, IsLength}
+use Rattle.planner.specs.Sent.{byteOf, kindOf, tooShort, over, Sent, updateRefusal, redrawRefusal, IsUpdate, IsRedraw}
+use Rattle.planner.specs.declared.count.Count.{Count}
+use Rattle.planner.specs.declared.count.Count.the-variants as count
+use Rattle.planner.specs.declared.first.Found.{Found}
+use Rattle.planner.specs.declared.first.Found.the-variants as found
+use Rattle.planner.proofs.Exactly.{Exactly, WrongSize, RightSize, ShortOutput, then, both, same-number, here, past, nowhere, among, misfit-yes, misfit-no, wrong-size, right-size, short-output}
+use Rattle.planner.proofs.Scanning.{from-at, none-at, from-none, first-given}
+
+-- ---- what is told of an answer tells all answers apart
+
+countBy : Told ℕ → Count
+countBy t = by (t .number) (t .value)
+  where
+    by : ℕ → Option ℕ → Count
+    by n (some k) = count.Bytes k
+    by n none = count.Refused n
+
+count-back : (a : Count) → countBy (toldCount a) ≡ a
+unfolding countBy
+count-back (count.Bytes n) = refl
+count-back (count.Refused n) = refl
+
+count-told : (a b : Count) → toldCount a ≡ toldCount b → a ≡ b
+count-told = apart toldCount countBy count-back
+
+foundBy : Told (Option Place) → Found
+foundBy t = by (t .number) (t .value)
+  where
+    by : ℕ → Option (Option Place) → Found
+    by n (some (some x)) = found.At (x .page) (x .column)
+    by n (some none) = found.Nothing
+    by n none = found.Refused n
+
+found-back : (a : Found) → foundBy (toldFound a) ≡ a
+unfolding foundBy
+found-back (found.At p c) = refl
+found-back found.Nothing = refl
+found-back (found.Refused n) = refl
+
+found-told : (a b : Found) → toldFound a ≡ toldFound b → a ≡ b
+found-told = apart toldFound foundBy found-back
+
+-- ---- two answers that a promise admits are equal
+
+pub first-one : {W : ℕ} {r w : List ℕ} {a b : Found} → IsFirst W r w a → IsFirst W r w b → a ≡ b
+first-one {a = a} {b = b} f g = found-told a b (f .tells ∙ sym (g .tells))
+
+pub length-one : {W : ℕ} {r w : List ℕ} {a b : Count} → IsLength W r w a → IsLength W r w b → a ≡ b
+length-one {a = a} {b = b} f g = count-told a b (f .tells ∙ sym (g .tells))
+
+sent-one : {number : ℕ} {s : List BusCycle} {out kinds : List ℕ} {a b : Count} {o k o′ k′ : List ℕ}
+    → Sent number s out kinds a o k → Sent number s out kinds b o′ k′ → (a ≡ b) × (o ≡ o′) × (k ≡ k′)
+sent-one {a = a} {b = b} f g =
+    (count-told a b (f .tells ∙ sym (g .tells)), f .bytes ∙ sym (g .bytes), f .kinds-left ∙ sym (g .kinds-left))
+
+pub update-one : (W : ℕ) (r w : List ℕ) {out kinds : List ℕ} {a b : Count} {o k o′ k′ : List ℕ}
+    → IsUpdate W r w out kinds a o k → IsUpdate W r w out kinds b o′ k′ → (a ≡ b) × (o ≡ o′) × (k ≡ k′)
+update-one W r w f g = sent-one f g
+
+pub redraw-one : (W : ℕ) (w : List ℕ) (contrast : ℕ) {out kinds : List ℕ} {a b : Count} {o k o′ k′ : List ℕ}
+    → IsRedraw W w contrast out kinds a o k → IsRedraw W w contrast out kinds b o′ k′ → (a ≡ b) × (o ≡ o′) × (k ≡ k′)
+redraw-one W w contrast f g = sent-one f g
+
+-- ---- the number that an answer tells
+
+first-number : (W : ℕ) (r w : List ℕ) (a : Found) → IsFirst W r w a → toldFound a .number ≡ cond (misfit W r || misfit W w) 1 0
+unfolding firstDifference
+first-number W r w a f = split (misfit W r || misfit W w)
+    (λ t. ap (λ x. x .number) (f .tells) ∙ rw t)
+    (λ t. ap (λ x. x .number) (f .tells) ∙ rw t)
+
+length-number : (W : ℕ) (r w : List ℕ) (a : Count) → IsLength W r w a → toldCount a .number ≡ cond (misfit W r || misfit W w) 1 0
+length-number W r w a f = split (misfit W r || misfit W w)
+    (λ t. ap (λ x. x .number) (f .tells) ∙ rw t)
+    (λ t. ap (λ x. x .number) (f .tells) ∙ rw t)
+
+sent-number : (number : ℕ) (s : List BusCycle) (out kinds : List ℕ) (a : Count) (o k : List ℕ) → Sent number s out kinds a o k → toldCount a .number ≡ number
+sent-number number s out kinds a o k f = split (eqb number 0)
+    (λ t. ap (λ x. x .number) (f .tells) ∙ rw t (sym (eqb-true number 0 t)))
+    (λ t. ap (λ x. x .number) (f .tells) ∙ rw t)
+
+-- a number other than 0 is a refusal's
+count-refused : (n : ℕ) (a : Count) → n ≢ 0 → Exactly (a ≡ count.Refused n) (toldCount a .number ≡ n)
+count-refused n (count.Bytes k) h = (λ e. ap (λ x. toldCount x .number) e, λ e. absurd (h (sym e)))
+count-refused n (count.Refused k) h = (λ e. ap (λ x. toldCount x .number) e, λ e. ap count.Refused e)
+
+found-refused : (n : ℕ) (a : Found) → n ≢ 0 → Exactly (a ≡ found.Refused n) (toldFound a .number ≡ n)
+found-refused n (found.At p c) h = (λ e. ap (λ x. toldFound x .number) e, λ e. absurd (h (sym e)))
+found-refused n found.Nothing h = (λ e. ap (λ x. toldFound x .number) e, λ e. absurd (h (sym e)))
+found-refused n (found.Refused k) h = (λ e. ap (λ x. toldFound x .number) e, λ e. ap found.Refused e)
+
+none-some : {A : Type 0} {x : A} → none ≡ some x → ⊥
+none-some e = absurd (let z : _≡_ {A = ℕ} 0 1 = cc in omega arith)
+
+some-one : {A : Type 0} {x y : A} → some x ≡ some y → x ≡ y
+some-one e = cc
+
+-- a refusal carries a number that is not 0
+refused-some : {number n : ℕ} {s : List BusCycle} {out kinds o k : List ℕ} → Sent number s out kinds (count.Refused n) o k → n ≢ 0
+refused-some {number} {n} f z = split (eqb number 0)
+    (λ t. let e = rw t at (f .tells) in none-some (ap (λ x. x .value) e))
+    (λ t. let e = rw t at (f .tells) in eqb-false number 0 t (sym (ap (λ x. x .number) e) ∙ z))
+
+-- ---- first_difference and update_length are refused with 1 exactly if a picture is not nine pages, and with nothing else
+
+module _ (W : ℕ) (r w : List ℕ) where
+  pub first-1 : (a : Found) → IsFirst W r w a → Exactly (a ≡ found.Refused 1) (WrongSize W r w)
+  first-1 a f =
+      then (found-refused 1 a (λ e. omega arith))
+      (then (same-number (first-number W r w a f)) (then (here (misfit W r || misfit W w) 1 0 (λ e. omega arith)) (wrong-size W r w)))
+
+  pub first-only : (n : ℕ) → IsFirst W r w (found.Refused n) → n ≡ 1
+  unfolding firstDifference
+  first-only n f = split (misfit W r || misfit W w)
+      (λ t. let e = rw t at (f .tells) in ap (λ x. x .number) e)
+      (λ t. let e = rw t at (f .tells) in absurd (none-some (ap (λ x. x .value) e)))
+
+  pub length-1 : (a : Count) → IsLength W r w a → Exactly (a ≡ count.Refused 1) (WrongSize W r w)
+  length-1 a f =
+      then (count-refused 1 a (λ e. omega arith))
+      (then (same-number (length-number W r w a f)) (then (here (misfit W r || misfit W w) 1 0 (λ e. omega arith)) (wrong-size W r w)))
+
+  pub length-only : (n : ℕ) → IsLength W r w (count.Refused n) → n ≡ 1
+  length-only n f = split (misfit W r || misfit W w)
+      (λ t. let e = rw t at (f .tells) in ap (λ x. x .number) e)
+      (λ t. let e = rw t at (f .tells) in absurd (none-some (ap (λ x. x .value) e)))
+
+-- ---- update is refused with 1, then 5
+
+module _ (W : ℕ) (r w out kinds : List ℕ) where
+  -- the two tests
+  wrong : Bool
+  wrong = misfit W r || misfit W w
+
+  short : Bool
+  short = tooShort (updateStream W r w) out kinds
+
+  module _ (a : Count) (o k : List ℕ) (f : IsUpdate W r w out kinds a o k) where
+    update-number : toldCount a .number ≡ cond wrong 1 (cond short 5 0)
+    unfolding updateRefusal wrong short
+    update-number = sent-number (updateRefusal W r w out kinds) (updateStream W r w) out kinds a o k f
+
+    pub update-1 : Exactly (a ≡ count.Refused 1) (WrongSize W r w)
+    unfolding wrong
+    update-1 =
+        then (count-refused 1 a (λ e. omega arith))
+        (then (same-number update-number)
+        (then (here wrong 1 (cond short 5 0) (nowhere short 5 0 1 (λ e. omega arith) (λ e. omega arith))) (wrong-size W r w)))
+
+    pub update-5 : Exactly (a ≡ count.Refused 5) (RightSize W r w × ShortOutput (updateLength W r w) out kinds)
+    unfolding wrong short
+    update-5 =
+        then (count-refused 5 a (λ e. omega arith))
+        (then (same-number update-number)
+        (then (past wrong 1 (cond short 5 0) 5 (λ e. omega arith))
+        (both (right-size W r w)
+        (then (here short 5 0 (λ e. omega arith)) (short-output (updateStream W r w) out kinds (updateLength W r w) (update-length W r w))))))
+
+  pub update-only : (n : ℕ) (o k : List ℕ) → IsUpdate W r w out kinds (count.Refused n) o k → (n ≡ 1) ⊎ (n ≡ 5)
+  update-only n o k f = ⊎-elim
+      inl
+      (λ e. ⊎-elim inr (λ z. absurd (refused-some f z)) (among short 5 0 n e))
+      (among wrong 1 (cond short 5 0) n (update-number (count.Refused n) o k f))
+
+-- ---- redraw is refused with 1, then 6, then 5
+
+module _ (W : ℕ) (w : List ℕ) (contrast : ℕ) (out kinds : List ℕ) where
+  brief : Bool
+  brief = tooShort (redrawStream W w contrast) out kinds
+
+  module _ (a : Count) (o k : List ℕ) (f : IsRedraw W w contrast out kinds a o k) where
+    redraw-number : toldCount a .number ≡ cond (misfit W w) 1 (cond (ltb 63 contrast) 6 (cond brief 5 0))
+    unfolding redrawRefusal brief
+    redraw-number = sent-number (redrawRefusal W w contrast out kinds) (redrawStream W w contrast) out kinds a o k f
+
+    pub redraw-1 : Exactly (a ≡ count.Refused 1) (length w ≢ 9 * W)
+    redraw-1 =
+        then (count-refused 1 a (λ e. omega arith))
+        (then (same-number redraw-number)
+        (then (here (misfit W w) 1 (cond (ltb 63 contrast) 6 (cond brief 5 0))
+        (nowhere (ltb 63 contrast) 6 (cond brief 5 0) 1 (λ e. omega arith) (nowhere brief 5 0 1 (λ e. omega arith) (λ e. omega arith)))) (misfit-yes W w)))
+
+    pub redraw-6 : Exactly (a ≡ count.Refused 6) ((length w ≡ 9 * W) × (63 < contrast))
+    redraw-6 =
+        then (count-refused 6 a (λ e. omega arith))
+        (then (same-number redraw-number)
+        (then (past (misfit W w) 1 (cond (ltb 63 contrast) 6 (cond brief 5 0)) 6 (λ e. omega arith))
+        (both (misfit-no W w)
+        (then (here (ltb 63 contrast) 6 (cond brief 5 0) (nowhere brief 5 0 6 (λ e. omega arith) (λ e. omega arith))) (ltb-true 63 contrast, lt-ltb 63 contrast)))))
+
+    pub redraw-5 : Exactly (a ≡ count.Refused 5) ((length w ≡ 9 * W) × ((contrast ≤ 63) × ShortOutput (4 + 9 * (W + 3)) out kinds))
+    unfolding brief
+    redraw-5 =
+        then (count-refused 5 a (λ e. omega arith))
+        (then (same-number redraw-number)
+        (then (past (misfit W w) 1 (cond (ltb 63 contrast) 6 (cond brief 5 0)) 5 (λ e. omega arith))
+        (both (misfit-no W w)
+        (then (past (ltb 63 contrast) 6 (cond brief 5 0) 5 (λ e. omega arith))
+        (both (ltb-false 63 contrast, le-ltb 63 contrast)
+        (then (here brief 5 0 (λ e. omega arith)) (short-output (redrawStream W w contrast) out kinds (4 + 9 * (W + 3)) (redraw-length W w contrast))))))))
+
+  pub redraw-only : (n : ℕ) (o k : List ℕ) → IsRedraw W w contrast out kinds (count.Refused n) o k → (n ≡ 1) ⊎ ((n ≡ 6) ⊎ (n ≡ 5))
+  redraw-only n o k f = ⊎-elim
+      inl
+      (λ e. inr (⊎-elim inl (λ d. inr (⊎-elim (λ x. x) (λ z. absurd (refused-some f z)) (among brief 5 0 n d))) (among (ltb 63 contrast) 6 (cond brief 5 0) n e)))
+      (among (misfit W w) 1 (cond (ltb 63 contrast) 6 (cond brief 5 0)) n (redraw-number (count.Refused n) o k f))
+
+-- ---- no promise admits a refusal with 0
+
+pub first-not-0 : (W : ℕ) (r w : List ℕ) → IsFirst W r w (found.Refused 0) → ⊥
+first-not-0 W r w f = absurd (omega (arith, first-only W r w 0 f))
+
+pub length-not-0 : (W : ℕ) (r w : List ℕ) → IsLength W r w (count.Refused 0) → ⊥
+length-not-0 W r w f = absurd (omega (arith, length-only W r w 0 f))
+
+pub update-not-0 : (W : ℕ) (r w out kinds o k : List ℕ) → IsUpdate W r w out kinds (count.Refused 0) o k → ⊥
+update-not-0 W r w out kinds o k f = refused-some f refl
+
+pub redraw-not-0 : (W : ℕ) (w : List ℕ) (contrast : ℕ) (out kinds o k : List ℕ) → IsRedraw W w contrast out kinds (count.Refused 0) o k → ⊥
+redraw-not-0 W w contrast out kinds o k f = refused-some f refl
+
+-- ---- outputs that are long enough get their stream
+
+-- the stream's length is answered, and its bytes and kinds are in the outputs
+pub record Given (s : List BusCycle) (out kinds : List ℕ) (a : Count) (o k : List ℕ) : Type 0 where
+  pub answer : a ≡ count.Bytes (length s)
+  pub bytes : o ≡ over (map byteOf s) out
+  pub kinds-left : k ≡ over (map kindOf s) kinds
+
+is-given : {number : ℕ} {s : List BusCycle} {out kinds : List ℕ} {a : Count} {o k : List ℕ} → number ≡ 0 → Sent number s out kinds a o k → Given s out kinds a o k
+is-given {s = s} {a = a} e f = record {
+  answer = count-told a (count.Bytes (length s)) (f .tells ∙ rw e);
+  bytes = f .bytes ∙ rw e;
+  kinds-left = f .kinds-left ∙ rw e;
+}
+
+long-enough : (s : List BusCycle) (out kinds : List ℕ) → length s ≤ length out → length s ≤ length kinds → tooShort s out kinds ≡ false
+unfolding tooShort
+long-enough s out kinds g h = rw (le-ltb (length out) (length s) g, le-ltb (length kinds) (length s) h)
+
+-- nine whole pages are always enough for an update: 1,215 bytes
+pub update-always : (W : ℕ) (r w out kinds : List ℕ) (a : Count) (o k : List ℕ) → IsUpdate W r w out kinds a o k → RightSize W r w
+    → 9 * (W + 3) ≤ length out → 9 * (W + 3) ≤ length kinds → Given (updateStream W r w) out kinds a o k
+unfolding updateRefusal
+update-always W r w out kinds a o k f fit g h =
+    let l = update-length W r w in
+    let m = update-most W r w in
+    is-given (rw (right-size W r w .1 fit, long-enough (updateStream W r w) out kinds (omega arith) (omega arith))) f
+
+-- four bytes more are enough for a redraw: 1,219 bytes
+pub redraw-always : (W : ℕ) (w : List ℕ) (contrast : ℕ) (out kinds : List ℕ) (a : Count) (o k : List ℕ) → IsRedraw W w contrast out kinds a o k
+    → length w ≡ 9 * W → contrast ≤ 63 → 4 + 9 * (W + 3) ≤ length out → 4 + 9 * (W + 3) ≤ length kinds
+    → Given (redrawStream W w contrast) out kinds a o k
+unfolding redrawRefusal
+redraw-always W w contrast out kinds a o k f fit low g h =
+    let l = redraw-length W w contrast in
+    is-given
+    (rw (misfit-no W w .1 fit, le-ltb 63 contrast low, long-enough (redrawStream W w contrast) out kinds (omega arith) (omega arith))) f
+
+-- ---- the first difference is the first in reading order
+
+-- p and c is where the pictures differ, and they show the same at every place before it
+pub record FirstAt (W : ℕ) (r w : List ℕ) (p c : ℕ) : Type 0 where
+  pub on-page : p ≤ 8
+  pub in-page : c < W
+  pub differing : shown W r p c ≢ shown W w p c
+  pub same-page : (k : ℕ) → k < c → shown W r p k ≡ shown W w p k
+  pub pages-before : (q k : ℕ) → q < p → k < W → shown W r q k ≡ shown W w q k
+
+module _ (W : ℕ) (r w : List ℕ) where
+  found-is : (x : Option Place) → given x ≡ firstDifference W r w → x ≡ firstFrom W r w 0 9
+  unfolding firstDifference
+  found-is x e = split (misfit W r || misfit W w)
+      (λ t. let f = rw t at e in absurd (none-some (sym (ap (λ u. u .value) f))))
+      (λ t. let f = rw t at e in some-one (ap (λ u. u .value) f))
+
+  pub first-at : (p c : ℕ) → IsFirst W r w (found.At p c) → FirstAt W r w p c
+  first-at p c f =
+      let l = from-at W r w 0 9 p c (sym (found-is _ (f .tells))) in
+      record {
+        on-page = omega (arith, l .low);
+        in-page = l .in-page;
+        differing = differs-true W r w p c (l .hit);
+        same-page = λ k h. differs-false W r w p k (l .same-page k h);
+        pages-before = λ q k h b. differs-false W r w q k (l .pages-before q k (omega arith) h b);
+      }
+
+  nothing-same : IsFirst W r w found.Nothing → Same W r w
+  nothing-same f = nowhere-same W r w (λ p c hp hc. none-at W r w 0 9 p c (sym (found-is none (f .tells))) (omega arith) (omega arith) hc)
+
+  same-nothing : RightSize W r w → Same W r w → firstDifference W r w ≡ given none
+  same-nothing fit s =
+      first-given W r w (right-size W r w .1 fit) ∙ ap given (from-none W r w 0 9 (λ p c hp hc. same-nowhere W r w s p c (omega arith) hc))
+
+  -- nothing is found exactly if the pictures are the same
+  pub first-nothing : (a : Found) → IsFirst W r w a → RightSize W r w → Exactly (a ≡ found.Nothing) (Same W r w)
+  first-nothing a f fit =
+      (λ e. nothing-same (subst (IsFirst W r w) e f), λ s. found-told a found.Nothing (f .tells ∙ same-nothing fit s))

@@ -1,0 +1,48 @@
+-- `planner::length::page_length` meets its contract: before each column, the bytes so far and the gap are counted.
+-- Assumes nothing.
+use Prim.Native.Nat.{_-_, _≤_}
+use native.Mathlib.Omega.{arith}
+use borrow.Author.Needs.{needs}
+use Rattle.streams.specs.Picture.{differs}
+use Rattle.streams.specs.Tally.{Counted}
+use Rattle.streams.proofs.Counting.{count-none, count-end}
+use Rattle.planner.proofs.length.page_length.Statement.{statement}
+use Rattle.planner.proofs.length.page_length.Tie as tie
+
+abbrev Inv-loop : tie.InvT-loop
+Inv-loop recorded wanted width page tally₀ column₀ tally column =
+    (tally .gap ≤ column) × Counted (differs width recorded wanted page) width (tally .bytes) (tally .gap) column
+
+abbrev μ-loop : tie.MeasureT-loop
+μ-loop recorded wanted width page tally₀ column₀ tally column = width - column
+
+loop-holds : tie.Need-loop-holds Inv-loop μ-loop
+loop-holds c = (omega arith, count-none _ _ 0)
+
+count-column-requires : tie.Need-count-column-requires Inv-loop μ-loop
+count-column-requires c κs = (search needs, search needs, search needs, c .before .loop .inv .0, c .before .loop .inv .1)
+
+add-column : tie.Need-add-column Inv-loop μ-loop
+add-column c = search needs
+
+loop-less : tie.Need-loop-less Inv-loop μ-loop
+loop-less c = search needs
+
+loop-again : tie.Need-loop-again Inv-loop μ-loop
+loop-again c = c .count-column .ensures
+
+returns : tie.Need-returns Inv-loop μ-loop
+returns c = count-end _ _ _ _ _ (c .loop-test .left) (c .before .loop .inv .1)
+
+pub page-length-spec : {M : Type 1} → statement M
+page-length-spec =
+    tie.close
+    (tie.spec
+    Inv-loop
+    μ-loop
+    loop-holds
+    count-column-requires
+    add-column
+    loop-less
+    loop-again
+    returns)

@@ -1,0 +1,8 @@
+// The planner: the first difference, the update's length, the update and the redraw.
+pub mod count;
+pub mod first;
+pub mod length;
+mod output;
+mod picture;
+pub mod redraw;
+pub mod update;

@@ -1,0 +1,164 @@
+// The glass: frames of one lit bit, of icons, reversed, entire and off; power states; V0.
+ghost use Prim.Native.Nat.{_+_, _<_, _≤_};
+use crate::print::byte;
+use crate::print::line;
+use crate::print::number;
+use crate::print::word;
+use controller::registers::Registers;
+use controller::start::power_up;
+use glass::frame::Shown;
+use glass::frame::frame;
+use glass::power::PowerState;
+use glass::power::Powered;
+use glass::power::power_state;
+use glass::voltage::Voltage;
+use glass::voltage::v0;
+
+// Zeros but for line 0, column 0, and page 8's byte at column 0, of which only bit 0 is shown.
+fn spotted() -> [u8; 1188] {
+    let mut memory = [0u8; 1188];
+    memory[0] = 1;
+    memory[1056] = 0xff;
+    memory
+}
+
+fn blank() -> [u8; 1188] {
+    [0; 1188]
+}
+
+// How many bytes of a frame are not 0, and the first of them with its place.
+struct Lit {
+    count: usize,
+    first: usize,
+    value: u8,
+}
+
+// One byte more of a frame.
+fn counted(lit: Lit, i: usize, lamp: u8) -> Lit
+    requires { ⌜ lit .count ≤ i ⌝ }
+    requires { ⌜ i < 1188 ⌝ }
+    ensures { λ r. ⌜ r .count ≤ i + 1 ⌝ }
+{
+    if lamp == 0 {
+        return lit;
+    }
+    if lit.count == 0 {
+        return Lit {
+            count: 1,
+            first: i,
+            value: lamp,
+        };
+    }
+    Lit {
+        count: lit.count + 1,
+        first: lit.first,
+        value: lit.value,
+    }
+}
+
+fn summary(frame: &[u8; 1188]) {
+    let mut lit = Lit {
+        count: 0,
+        first: 0,
+        value: 0,
+    };
+    for i in 0..1188 {
+        let lamp = frame[i];
+        lit = counted(lit, i, lamp);
+    }
+    number(lit.count);
+    number(lit.first);
+    byte(lit.value);
+    line();
+}
+
+fn drawn(registers: Registers, memory: &[u8]) {
+    let mut out = blank();
+    match frame(registers, memory, &mut out) {
+        Shown::Drawn => summary(&out),
+        Shown::Refused(n) => {
+            word(b" refused");
+            byte(n);
+            line();
+        }
+    }
+}
+
+pub(crate) fn frames() {
+    let memory = spotted();
+    shown(&memory);
+}
+
+// On, at start line 60: line 0 is row 4, and the icon row does not move.
+fn shown(memory: &[u8]) {
+    let mut registers = power_up();
+    word(b"off:");
+    drawn(registers, memory);
+    registers.on = true;
+    registers.start_line = 60;
+    word(b"start line 60:");
+    drawn(registers, memory);
+    registers.shl = true;
+    word(b"SHL:");
+    drawn(registers, memory);
+    registers.adc = true;
+    word(b"ADC:");
+    drawn(registers, memory);
+    registers.reverse = true;
+    word(b"reverse:");
+    drawn(registers, memory);
+    registers.entire = true;
+    word(b"entire:");
+    drawn(registers, memory);
+    registers.contrast = 64;
+    word(b"contrast 64:");
+    drawn(registers, memory);
+}
+
+fn power(registers: Registers) {
+    match power_state(registers) {
+        Powered::State(state) => match state {
+            PowerState::Normal => word(b" normal"),
+            PowerState::Sleep => word(b" sleep"),
+            PowerState::Standby => word(b" standby"),
+        },
+        Powered::Refused(n) => {
+            word(b" refused");
+            byte(n);
+        }
+    }
+    line();
+}
+
+fn volts(resistor: u8, contrast: u8) {
+    word(b"V0 at");
+    byte(resistor);
+    byte(contrast);
+    match v0(resistor, contrast) {
+        Voltage::Fifteenths(n) => number(n as usize),
+        Voltage::Refused(n) => {
+            word(b" refused");
+            byte(n);
+        }
+    }
+    line();
+}
+
+pub(crate) fn numbers() {
+    let mut registers = power_up();
+    word(b"off:");
+    power(registers);
+    registers.entire = true;
+    word(b"off and entire:");
+    power(registers);
+    registers.indicator = true;
+    word(b"with the indicator:");
+    power(registers);
+    registers.on = true;
+    word(b"on:");
+    power(registers);
+    volts(0, 0);
+    volts(7, 63);
+    volts(8, 63);
+    volts(7, 64);
+}

@@ -1,0 +1,14 @@
+// Document 01's cases that are run, and one case for each instruction: the output is compared with `stdout`.
+mod chip;
+mod glass_cases;
+mod print;
+mod streams;
+
+fn main() {
+    chip::instructions();
+    chip::page_nine();
+    glass_cases::frames();
+    glass_cases::numbers();
+    streams::lengths();
+    streams::redraws();
+}

@@ -1,0 +1,28 @@
+// Words and numbers on standard output.
+
+pub(crate) fn word(text: &[u8]) {
+    io::write_all(1, text);
+}
+
+// A space and a number.
+pub(crate) fn number(n: usize) {
+    io::write_all(1, b" ");
+    io::print_decimal(1, n as u64);
+}
+
+pub(crate) fn byte(n: u8) {
+    number(n as usize);
+}
+
+// A space and a 0 or 1.
+pub(crate) fn flag(on: bool) {
+    if on {
+        number(1);
+    } else {
+        number(0);
+    }
+}
+
+pub(crate) fn line() {
+    io::write_all(1, b"\n");
+}

@@ -1,0 +1,78 @@
+-- Document 01's figures marked P, in its words and order: one table, one claim. `proofs/FiguresHold.antt` proves it by computing.
+-- Assumes nothing.
+use Prim.Native.Nat.{ℕ, _+_, _*_}
+use mathlib.Core.Path.{_≡_}
+use mathlib.Core.Bool.{true, false}
+use mathlib.Core.Option.{Option, some}
+use mathlib.Core.List.{List, [], _∷_, _++_}
+use lib.ListN.{set, replicate}
+use Rattle.instructions.specs.Numbers.{numbers0713}
+use Rattle.controller.specs.Registers.{start}
+use Rattle.controller.specs.Cycle.{answer}
+use Rattle.controller.specs.Run.{BusCycle}
+use Rattle.controller.specs.State.{State, state, run}
+use Rattle.glass.specs.Dot.{lineOf}
+use Rattle.glass.specs.Voltage.{numerator, denominator}
+use Rattle.streams.specs.Update.{updateStream}
+use Rattle.streams.specs.Length.{updateLength}
+
+-- a picture of zeros
+abbrev pub zeros : List ℕ
+zeros = replicate 1188 0
+
+-- after power-up, and then after some cycles
+abbrev pub up : State
+up = state (start numbers0713 0 false) zeros
+
+abbrev pub after : List BusCycle → State
+after cycles = run numbers0713 up cycles
+
+abbrev pub instruction : ℕ → BusCycle
+instruction b = (0, b)
+
+abbrev pub byte : ℕ → BusCycle
+byte b = (1, b)
+
+-- what a status read answers
+abbrev pub statusOf : State → Option ℕ
+statusOf s = answer numbers0713 (s .registers) (s .memory) 2 0 .byte
+
+-- zeros but for one byte at page p, column c
+abbrev pub spot : ℕ → ℕ → ℕ → List ℕ → List ℕ
+spot p c v picture = set picture (132 * p + c) v
+
+-- page 8 full of a byte, all other pages 0
+abbrev pub icons : ℕ → List ℕ
+icons v = replicate 1056 0 ++ replicate 132 v
+
+pub record Figures : Type 0 where
+  -- after power-up status is 60; with the pin low 70
+  pub status-up : statusOf up ≡ some 0x60
+  pub status-low : statusOf (after ((4, 0) ∷ [])) ≡ some 0x70
+  -- column 131, two writes: the first is stored, the second not; column 132
+  pub last-column-memory : after (instruction 0x18 ∷ instruction 0x03 ∷ byte 5 ∷ byte 7 ∷ []) .memory ≡ spot 0 131 5 zeros
+  pub last-column : after (instruction 0x18 ∷ instruction 0x03 ∷ byte 5 ∷ byte 7 ∷ []) .registers .column .0 ≡ 132
+  -- E0 at column 7, one write, EE: column 7
+  pub modify-read : after (instruction 0x07 ∷ instruction 0xe0 ∷ byte 1 ∷ instruction 0xee ∷ []) .registers .column .0 ≡ 7
+  -- 81 then FF: contrast 63
+  pub contrast : after (instruction 0x81 ∷ instruction 0xff ∷ []) .registers .contrast ≡ 63
+  -- start 60, SHL 0, row 5: line 1. SHL 1, row 0: line 59
+  pub row-5 : lineOf 64 60 false 5 ≡ 1
+  pub row-0 : lineOf 64 60 true 0 ≡ 59
+  -- pictures equal: 0 bytes
+  pub equal : updateLength 132 zeros zeros ≡ 0
+  -- only page 3 column 37 differs, wanted FF: B3 12 05 FF
+  pub one-byte : updateStream 132 zeros (spot 3 37 0xff zeros) ≡ instruction 0xb3 ∷ instruction 0x12 ∷ instruction 0x05 ∷ byte 0xff ∷ []
+  -- page 0, columns 10 and 12: 6 bytes; 10 and 13: 7, one stretch; 10 and 14: 7, two
+  pub gap-of-1 : updateStream 132 zeros (spot 0 10 1 (spot 0 12 2 zeros))
+      ≡ instruction 0xb0 ∷ instruction 0x10 ∷ instruction 0x0a ∷ byte 1 ∷ byte 0 ∷ byte 2 ∷ []
+  pub gap-of-2 : updateStream 132 zeros (spot 0 10 1 (spot 0 13 2 zeros))
+      ≡ instruction 0xb0 ∷ instruction 0x10 ∷ instruction 0x0a ∷ byte 1 ∷ byte 0 ∷ byte 0 ∷ byte 2 ∷ []
+  pub gap-of-3 : updateStream 132 zeros (spot 0 10 1 (spot 0 14 2 zeros))
+      ≡ instruction 0xb0 ∷ instruction 0x10 ∷ instruction 0x0a ∷ byte 1 ∷ instruction 0x10 ∷ instruction 0x0e ∷ byte 2 ∷ []
+  pub gap-lengths : updateLength 132 zeros (spot 0 10 1 (spot 0 14 2 zeros)) ≡ 7
+  -- page 8 recorded 00, wanted FE: 0 bytes
+  pub page-8 : updateLength 132 zeros (icons 0xfe) ≡ 0
+  -- resistor 7, contrast 63: 194,400/15
+  pub v0-numerator : numerator 7 63 ≡ 194400
+  pub v0-denominator : denominator ≡ 15

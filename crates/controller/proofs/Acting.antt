@@ -14,7 +14,7 @@ use Rattle.instructions.specs.Numbers.{Sensible}
 use Rattle.instructions.specs.Read.{readOf}
 use Rattle.instructions.specs.declared.numbers.Numbers.{Numbers}
 use Rattle.instructions.specs.declared.instruction.Instruction.{Instruction}
-use Rattle.instructions.proofs.Fits.{FitsIf, read-fits-if}
+use Rattle.instructions.proofs.Fits.{read-fits}
 use Rattle.controller.specs.Registers.{outside, Ranged}
 use Rattle.controller.specs.Execute.{executed}
 use Rattle.controller.specs.Memory.{stored, advanced}
@@ -51,13 +51,12 @@ pub acts : (k : Numbers) → Sensible k → (s : State) (i : Instruction) (b : �
 unfolding carried kept
 acts k g s i b h e =
     let r = s .registers in
-    let d = does k s (0, b) (executed r i) (s .memory) (carries h 0 b refl ∙ rw e refl) (keeps h 0 b refl) in
-    let f : FitsIf k (given i .value) = subst (λ t. FitsIf k (t .value)) e (read-fits-if k g (r .awaited) b) in (
+    let d = does k s (0, b) (executed r i) (s .memory) (carries h 0 b refl ∙ rw e refl) (keeps h 0 b refl) in (
       d .0,
       d .1,
       subst (Restartable k) (sym (d .1)) (record {
         long = h .long;
-        ranged = ranged k (executed r i) (executed-ranged k g r i f (ranges k r (h .ranged)));
+        ranged = ranged k (executed r i) (executed-ranged k g r i (read-fits k g (r .awaited) b i e) (ranges k r (h .ranged)));
         high = executed-pin r i ∙ h .high;
       }),
     )

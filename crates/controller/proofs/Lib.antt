@@ -3,4 +3,5 @@ pub mod Ranges
 pub mod Acting
 pub mod Chips
 pub mod Unique
+pub mod Numbered
 pub mod Readers

@@ -17,7 +17,7 @@ use Rattle.instructions.specs.declared.numbers.Numbers.{Numbers}
 use Rattle.instructions.specs.declared.instruction.Instruction.{Instruction}
 use Rattle.instructions.specs.declared.instruction.Instruction.the-variants.{ColumnLow, ColumnHigh, Resistor, Power, StartLine, ContrastNext, ContrastValue, Adc, Bias, Entire, Reverse, IndicatorOff, IndicatorOn, IndicatorValue, Display, Page, Shl, ModifyReadOn, ModifyReadOff, Reset, Nop}
 use Rattle.instructions.proofs.Fields.{in-field}
-use Rattle.instructions.proofs.Fits.{either, Fits, FitsIf, read-fits-if}
+use Rattle.instructions.proofs.Fits.{either, Fits, Proper, read-proper}
 use Rattle.controller.specs.Registers.{outside, savedOf, Ranged}
 use Rattle.controller.specs.Execute.{saved, restored, executed}
 use Rattle.controller.specs.Memory.{advanced}
@@ -154,9 +154,9 @@ executed-pin r Nop = refl
 
 -- ---- a whole cycle
 
-instructed-ranged : (k : Numbers) → Sensible k → (r : Registers) (n : ℕ) (x : Option Instruction) → FitsIf k x → Ranged k r
+instructed-ranged : (k : Numbers) → Sensible k → (r : Registers) (n : ℕ) (x : Option Instruction) → Proper k n x → Ranged k r
     → Ranged k (afterBy r (instructedBy r n x .registers))
-instructed-ranged k g r n (some i) f h = executed-ranged k g r i f h
+instructed-ranged k g r n (some i) f h = executed-ranged k g r i (f .1) h
 instructed-ranged k g r n none f h = h
 
 advanced-by : (w c d : ℕ) (t : Bool) → ltb c w ≡ t → w < d → c < d → cond t (c + 1) c < d
@@ -183,7 +183,7 @@ unfolding answer carried
 stays-ranged k g r m kind value h =
     let P : Outcome → Type 0 = λ o. Ranged k (afterBy r (o .registers)) in
     either P (eqb (refusal k (length m) r kind value) 0)
-    (either P (eqb kind 0) (instructed-ranged k g r _ (readOf k (r .awaited) value .value) (read-fits-if k g (r .awaited) value) h)
+    (either P (eqb kind 0) (instructed-ranged k g r _ (readOf k (r .awaited) value .value) (read-proper k g (r .awaited) value) h)
     (either P (eqb kind 1) (written-ranged k g r value h)
     (either P (eqb kind 2) h
     (either P (eqb kind 3) (read-ranged k g r (r .«modify_read») _ h)

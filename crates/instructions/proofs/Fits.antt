@@ -1,4 +1,4 @@
--- Whatever the reader reads is inside its fields, for any chip.
+-- Whatever the reader reads is inside its fields and not refused, for any chip; and what it does not read is refused with 4.
 -- Assumes nothing.
 use Prim.Native.Nat.{ℕ, _+_, _-_, _*_, _%_, _≤_, _<_}
 use mathlib.Core.Path.{_≡_, refl, ap, subst}
@@ -7,7 +7,8 @@ use mathlib.Core.Option.{Option, none, some}
 use native.Mathlib.Omega.{arith}
 use lib.Dec.{eqb, ltb, leb}
 use borrow.Author.Tests.{ltb-true, ltb-false}
-use Rattle.instructions.specs.Told.{Told, given, refused}
+use Rattle.instructions.specs.Refusal.{unassigned}
+use Rattle.instructions.specs.Told.{Told, given}
 use Rattle.instructions.specs.Numbers.{Sensible}
 use Rattle.instructions.specs.Write.{fieldOf, flagOf, writeOf}
 use Rattle.instructions.specs.Read.{classOf, roomIn, readBy, readFirst, readOf}
@@ -26,9 +27,10 @@ either P false p q = q
 abbrev pub Fits : Numbers → Instruction → Type 0
 Fits k i = writeOf k i .number ≡ 0
 
-abbrev pub FitsIf : Numbers → Option Instruction → Type 0
-FitsIf k (some i) = Fits k i
-FitsIf k none = Unit {0}
+-- what is read is inside its fields, and nothing else is refused but with 4
+abbrev pub Proper : Numbers → ℕ → Option Instruction → Type 0
+Proper k n (some i) = (n ≡ 0) × Fits k i
+Proper k n none = n ≡ unassigned
 
 field-fits : (base count v : ℕ) → v < count → fieldOf base count v .number ≡ 0
 field-fits base count v h = ap (λ t. t .number) (field-given base count v h)
@@ -47,33 +49,37 @@ room-in : (k : Numbers) → Sensible k → (h : ℕ) → h < 16 → roomIn (k .h
 unfolding roomIn
 room-in k g h l = room-by (k .highs) h (ltb h (k .highs)) refl l (g .high)
 
-by-fits : (k : Numbers) → Sensible k → (c b : ℕ) → FitsIf k (readBy k c b .value)
+by-proper : (k : Numbers) → Sensible k → (c b : ℕ) → Proper k (readBy k c b .number) (readBy k c b .value)
 unfolding readBy
-by-fits k g c b =
-    let P : Told Instruction → Type 0 = λ t. FitsIf k (t .value) in
-    either P (eqb c 1) (field-fits 0x00 16 (b % 16) (omega arith))
-    (either P (eqb c 2) (field-fits 0x10 (k .highs) (roomIn (k .highs) (b % 16)) (room-in k g (b % 16) (omega arith)))
-    (either P (eqb c 3) (field-fits 0x20 8 (b % 8) (omega arith))
-    (either P (eqb c 4) (field-fits 0x28 8 (b % 8) (omega arith))
-    (either P (eqb c 5) (field-fits 0x40 64 (b % 64) (omega arith))
-    (either P (eqb c 6) refl
-    (either P (eqb c 7) (flag-fits 0xa0 0xa1 (eqb (b % 2) 1))
-    (either P (eqb c 8) (flag-fits 0xa2 0xa3 (eqb (b % 2) 1))
-    (either P (eqb c 9) (flag-fits 0xa4 0xa5 (eqb (b % 2) 1))
-    (either P (eqb c 10) (flag-fits 0xa6 0xa7 (eqb (b % 2) 1))
-    (either P (eqb c 11) refl
-    (either P (eqb c 12) refl
-    (either P (eqb c 13) (flag-fits 0xae 0xaf (eqb (b % 2) 1))
-    (either P (eqb c 14) (field-fits 0xb0 16 (b % 16) (omega arith))
-    (either P (eqb c 15) (flag-fits 0xc0 0xc8 (leb 8 (b % 16)))
-    (either P (eqb c 16) refl
-    (either P (eqb c 17) refl
-    (either P (eqb c 18) refl
-    (either P (eqb c 19) refl
-    tt))))))))))))))))))
+by-proper k g c b =
+    let P : Told Instruction → Type 0 = λ t. Proper k (t .number) (t .value) in
+    either P (eqb c 1) (refl, field-fits 0x00 16 (b % 16) (omega arith))
+    (either P (eqb c 2) (refl, field-fits 0x10 (k .highs) (roomIn (k .highs) (b % 16)) (room-in k g (b % 16) (omega arith)))
+    (either P (eqb c 3) (refl, field-fits 0x20 8 (b % 8) (omega arith))
+    (either P (eqb c 4) (refl, field-fits 0x28 8 (b % 8) (omega arith))
+    (either P (eqb c 5) (refl, field-fits 0x40 64 (b % 64) (omega arith))
+    (either P (eqb c 6) (refl, refl)
+    (either P (eqb c 7) (refl, flag-fits 0xa0 0xa1 (eqb (b % 2) 1))
+    (either P (eqb c 8) (refl, flag-fits 0xa2 0xa3 (eqb (b % 2) 1))
+    (either P (eqb c 9) (refl, flag-fits 0xa4 0xa5 (eqb (b % 2) 1))
+    (either P (eqb c 10) (refl, flag-fits 0xa6 0xa7 (eqb (b % 2) 1))
+    (either P (eqb c 11) (refl, refl)
+    (either P (eqb c 12) (refl, refl)
+    (either P (eqb c 13) (refl, flag-fits 0xae 0xaf (eqb (b % 2) 1))
+    (either P (eqb c 14) (refl, field-fits 0xb0 16 (b % 16) (omega arith))
+    (either P (eqb c 15) (refl, flag-fits 0xc0 0xc8 (leb 8 (b % 16)))
+    (either P (eqb c 16) (refl, refl)
+    (either P (eqb c 17) (refl, refl)
+    (either P (eqb c 18) (refl, refl)
+    (either P (eqb c 19) (refl, refl)
+    refl))))))))))))))))))
 
-pub read-fits-if : (k : Numbers) → Sensible k → (a : Awaited) (b : ℕ) → FitsIf k (readOf k a b .value)
+pub read-proper : (k : Numbers) → Sensible k → (a : Awaited) (b : ℕ) → Proper k (readOf k a b .number) (readOf k a b .value)
 unfolding readFirst
-read-fits-if k g awaited.Nothing b = by-fits k g (classOf b) b
-read-fits-if k g awaited.Contrast b = field-fits 0x00 64 (b % 64) (omega arith)
-read-fits-if k g awaited.Indicator b = field-fits 0x00 4 (b % 4) (omega arith)
+read-proper k g awaited.Nothing b = by-proper k g (classOf b) b
+read-proper k g awaited.Contrast b = (refl, field-fits 0x00 64 (b % 64) (omega arith))
+read-proper k g awaited.Indicator b = (refl, field-fits 0x00 4 (b % 4) (omega arith))
+
+-- what is read as i fits
+pub read-fits : (k : Numbers) → Sensible k → (a : Awaited) (b : ℕ) (i : Instruction) → readOf k a b ≡ given i → Fits k i
+read-fits k g a b i e = subst (λ t. Proper k (t .number) (t .value)) e (read-proper k g a b) .1

@@ -1,0 +1,196 @@
+-- Playing a job a turn at a time: what is put, and what remains to be put.
+-- Assumes nothing.
+use Prim.Native.Nat.{ℕ, suc, _+_, _*_, _-_, _≤_, _<_}
+use mathlib.Core.Path.{_≡_, refl, sym, ap, subst, _∙_}
+use mathlib.Core.Bool.{Bool, cond}
+use mathlib.Core.List.{List, [], _++_, append-nil}
+use native.Mathlib.Nat.{zero-add}
+use native.Mathlib.Numerals.{add-one}
+use native.Mathlib.Omega.{arith}
+use lib.ListN.{length, replicate, take, drop, getD, set, length-append, length-drop, drop-of-length-le}
+use lib.Seq.{sets, sets-eq, paste-suc, getD-drop, length-take-le}
+use borrow.Author.Tests.{lt-ltb, le-ltb, ne-eqb}
+use Rattle.instructions.specs.Refusal.{shortOutput}
+use Rattle.instructions.specs.Told.{given}
+use Rattle.instructions.specs.Numbers.{numbers0713}
+use Rattle.controller.specs.Cycle.{Outcome, outcome, answer, memoryAfter, Cycled}
+use Rattle.controller.specs.State.{State, state, step, afterBy}
+use Rattle.controller.specs.declared.registers.Registers.{Registers}
+use Rattle.controller.specs.declared.cycle.Answer.{Answer}
+use Rattle.controller.specs.declared.cycle.Answer.the-variants as answer
+use Rattle.streams.specs.Length.{updateLength}
+use Rattle.planner.specs.Count.{toldCount, IsLength}
+use Rattle.planner.specs.declared.count.Count.{Count}
+use Rattle.planner.specs.declared.count.Count.the-variants as count
+use Rattle.planner.proofs.Exactly.{right-size}
+use Rattle.jobs.specs.Header.{cycleAt, picture1, picture2, IsHeader}
+use Rattle.jobs.specs.Text.{readLine, refusalLine, badLine, endLine, updateLine}
+use Rattle.jobs.specs.Play.{lineOf, answerAt, ending, textFrom, startMemory, powerUp, textBy, textOf, IsPlayed}
+use Rattle.jobs.specs.Output.{Put, Remains, Turned, Holds, poweredUp}
+use Rattle.jobs.specs.declared.header.Job.{Job}
+use Rattle.jobs.specs.declared.header.Header.{Header}
+use Rattle.jobs.specs.declared.header.Header.the-variants as header
+use Rattle.jobs.specs.declared.play.Played.the-variants as played
+use Rattle.instructions.proofs.Sensible.{sensible0713}
+use Rattle.controller.proofs.Numbered.{numbered}
+use Rattle.jobs.proofs.Putting.{sets-append, put-none, put-most, put-then}
+
+-- ---- a turn, by its answer
+
+module _ (file : List ℕ) (i : ℕ) (r : Registers) (m o : List ℕ) (at : ℕ) {a : Answer} {m′ : List ℕ}
+    (q : Cycled numbers0713 r m (cycleAt file i .0) (cycleAt file i .1) a m′) where
+  turned : (x : Answer) {r′ : Registers} {o′ : List ℕ} {at′ : ℕ} → a ≡ x → r′ ≡ afterBy r (outcome x .registers)
+      → Put o at (lineOf i (outcome x)) o′ at′ 44 → Turned file i (state r m) o at (state r′ m′) o′ at′
+  turned x {o′ = o′} {at′ = at′} e f p =
+      let t : outcome x ≡ answerAt file i (state r m) = ap outcome (sym e) ∙ q .tells in
+      record {
+        after = rw (f, q .leaves) (ap (λ (z : Outcome). state (afterBy r (z .registers)) (memoryAfter numbers0713 r m (cycleAt file i .0) (cycleAt file i .1))) t);
+        line = subst (λ (z : Outcome). Put o at (lineOf i z) o′ at′ 44) t p;
+      }
+
+  pub turned-done : {s : Registers} → a ≡ answer.Done s → Turned file i (state r m) o at (state s m′) o at
+  unfolding lineOf
+  turned-done {s} e = turned (answer.Done s) e refl (put-most (omega arith) (put-none o at))
+
+  pub turned-status : {b : ℕ} {o′ : List ℕ} {at′ : ℕ} → a ≡ answer.Status b → Put o at (readLine i b) o′ at′ 26 → Turned file i (state r m) o at (state r m′) o′ at′
+  unfolding lineOf
+  turned-status {b} e p = turned (answer.Status b) e refl (put-most (omega arith) p)
+
+  pub turned-read : {b : ℕ} {s : Registers} {o′ : List ℕ} {at′ : ℕ} → a ≡ answer.Read b s → Put o at (readLine i b) o′ at′ 26 → Turned file i (state r m) o at (state s m′) o′ at′
+  unfolding lineOf
+  turned-read {b} {s} e p = turned (answer.Read b s) e refl (put-most (omega arith) p)
+
+  pub turned-refused : {n : ℕ} {o′ : List ℕ} {at′ : ℕ} → a ≡ answer.Refused n → Put o at (refusalLine i n) o′ at′ 44 → Turned file i (state r m) o at (state r m′) o′ at′
+  unfolding lineOf
+  turned-refused {n} e p =
+      let t : outcome (answer.Refused n) ≡ answerAt file i (state r m) = ap outcome (sym e) ∙ q .tells in
+      let h = numbered numbers0713 sensible0713 r m (cycleAt file i .0) (cycleAt file i .1) in
+      let some : 1 ≤ n = rw (← t) at (h .some-number) refl refl in
+      turned (answer.Refused n) e refl (rw (ne-eqb n 0 (λ z. omega arith)) p)
+
+-- ---- what remains to be put
+
+pub remains-start : (w o : List ℕ) → Remains w o o 0 w
+remains-start w o = record { bytes = refl; count = sym (zero-add (length w)) }
+
+-- putting the first part of what remains
+pub remains-put : {w o₀ o o′ t u : List ℕ} {at at′ k : ℕ} → Remains w o₀ o at (t ++ u) → Put o at t o′ at′ k → Remains w o₀ o′ at′ u
+remains-put {w} {o₀} {o} {o′} {t} {u} {at} {at′} h p = record {
+  bytes = h .bytes ∙ sets-append o at t u ∙ ap (λ (l : List ℕ). sets l (at + length t) u) (sym (p .bytes)) ∙ ap (λ (j : ℕ). sets o′ j u) (sym (p .place));
+  count = omega (arith, h .count, p .place, length-append t u);
+}
+
+-- putting all that remains
+pub remains-end : {w o₀ o o′ u : List ℕ} {at r k n : ℕ} → Remains w o₀ o at u → Put o at u o′ r k → r ≤ n → Put o₀ 0 w o′ r n
+remains-end h p b = record { bytes = p .bytes ∙ sym (h .bytes); place = omega (arith, h .count, p .place); near = omega (arith, b) }
+
+-- a turn's step in what remains
+module _ (file : List ℕ) (j : Job) (i : ℕ) (s : State) where
+  text-step : i < j .cycles → textFrom file j s i (j .cycles - i)
+      ≡ lineOf i (answerAt file i s) ++ textFrom file j (step numbers0713 s (cycleAt file i)) (i + 1) (j .cycles - (i + 1))
+  unfolding textFrom
+  text-step h = let e : j .cycles - i ≡ suc (j .cycles - (i + 1)) = omega arith in rw (e, add-one i)
+
+  pub remains-turn : {w o₀ o o′ : List ℕ} {s′ : State} {at at′ : ℕ} → i < j .cycles → Remains w o₀ o at (textFrom file j s i (j .cycles - i))
+      → Turned file i s o at s′ o′ at′ → Remains w o₀ o′ at′ (textFrom file j s′ (i + 1) (j .cycles - (i + 1)))
+  remains-turn h q t = rw (t .after) (remains-put (rw (text-step h) at q) (t .line))
+
+  pub remains-ending : {w o₀ o : List ℕ} {at : ℕ} → j .cycles ≤ i → Remains w o₀ o at (textFrom file j s i (j .cycles - i)) → Remains w o₀ o at (ending file j s)
+  unfolding textFrom
+  remains-ending h q = let e : j .cycles - i ≡ 0 = omega arith in rw e at q
+
+-- ---- a picture copied a byte at a time over z
+
+module _ (z file : List ℕ) (from n : ℕ) (long : length z ≡ n) (fits : from + n ≤ length file) where
+  pub load-step : (i : ℕ) → i < n
+      → set (take i (drop from file) ++ drop i z) i (getD file (from + i) 0) ≡ take (i + 1) (drop from file) ++ drop (i + 1) z
+  load-step i h =
+      let inz : 0 + i < length z = omega arith in
+      let ins : i < length (drop from file) = simp length-drop (omega arith) in
+      rw add-one (rw getD-drop at (simp zero-add at (paste-suc z 0 (drop from file) i 0 inz ins)))
+
+  pub load-end : (i : ℕ) → n ≤ i → i ≤ n → take i (drop from file) ++ drop i z ≡ take n (drop from file)
+  load-end i h k =
+      let e : i ≡ n = omega arith in
+      let l : length z ≤ n = omega arith in
+      let d : drop n z ≡ [] = drop-of-length-le z l in
+      rw (e, d) (append-nil _)
+
+-- ---- the memory at power-up, and the last lines
+
+module _ (file : List ℕ) (j : Job) where
+  pub start-zeros : {m : List ℕ} → j .pictures < 1 → m ≡ replicate 1188 0 → m ≡ startMemory file j
+  unfolding startMemory
+  start-zeros h e = e ∙ sym (ap (λ (b : Bool). cond b (replicate 1188 0) (picture1 file (j .cycles))) (lt-ltb _ _ h))
+
+  pub start-picture : {m : List ℕ} → 1 ≤ j .pictures → m ≡ picture1 file (j .cycles) → m ≡ startMemory file j
+  unfolding startMemory
+  start-picture h e = e ∙ sym (ap (λ (b : Bool). cond b (replicate 1188 0) (picture1 file (j .cycles))) (le-ltb _ _ h))
+
+  module _ (s : State) {o o′ : List ℕ} {at a : ℕ} (p : Put o at (endLine (s .registers)) o′ a 214) where
+    pub ending-short : j .pictures < 2 → Put o at (ending file j s) o′ a 242
+    unfolding ending
+    ending-short h = rw (lt-ltb _ _ h, append-nil (endLine (s .registers))) (put-most (omega arith) p)
+
+    pub ending-long : {o″ : List ℕ} {b n : ℕ} → 2 ≤ j .pictures → n ≡ updateLength 132 (s .memory) (picture2 file (j .cycles))
+        → Put o′ a (updateLine n) o″ b 28 → Put o at (ending file j s) o″ b 242
+    unfolding ending
+    ending-long h e q = rw (le-ltb _ _ h, ← e) (put-then p q)
+
+-- ---- the update's length
+
+module _ (file : List ℕ) (j : Job) (h : Holds file j) (two : 2 ≤ j .pictures) (m : List ℕ) (long : length m ≡ 1188) where
+  picture2-long : length (picture2 file (j .cycles)) ≡ 1188
+  picture2-long =
+      let d : 1188 ≤ length (drop (8 + 2 * j .cycles + 1188) file) = rw length-drop (omega (arith, h .whole)) in
+      length-take-le 1188 (drop (8 + 2 * j .cycles + 1188) file) d
+
+  -- the part of the file that picture 2 is, as the code cuts it
+  abbrev part : List ℕ
+  part = take (8 + 2 * j .cycles + 1188 + 1188 - (8 + 2 * j .cycles + 1188)) (drop (8 + 2 * j .cycles + 1188) file)
+
+  module _ {a : Count} (q : IsLength 132 m part a) where
+    told : toldCount a ≡ given (updateLength 132 m (picture2 file (j .cycles)))
+    told =
+        let e : 8 + 2 * j .cycles + 1188 + 1188 - (8 + 2 * j .cycles + 1188) ≡ 1188 = omega arith in
+        rw (right-size 132 m (picture2 file (j .cycles)) .1 (long, picture2-long)) at (rw e at (q .tells))
+
+    pub wanted-given : {n : ℕ} → a ≡ count.Bytes n → n ≡ updateLength 132 m (picture2 file (j .cycles))
+    wanted-given f = let x = ap (λ v. v .value) (rw f at told) in cc
+
+    pub wanted-never : {n k : ℕ} → a ≡ count.Refused n → k ≡ updateLength 132 m (picture2 file (j .cycles))
+    wanted-never f = absurd (let x = ap (λ v. v .value) (rw f at told) in let z : _≡_ {A = ℕ} 0 1 = cc in omega arith)
+
+-- ---- the whole text of a job, and of a file
+
+pub good-whole : (file : List ℕ) (j : Job) {m o₀ o o′ u : List ℕ} {at r k n : ℕ} → m ≡ startMemory file j
+    → Remains (textFrom file j (poweredUp m) 0 (j .cycles)) o₀ o at u → Put o at u o′ r k → r ≤ n
+    → Put o₀ 0 (textFrom file j (powerUp file j) 0 (j .cycles)) o′ r n
+good-whole file j e h q b = rw (← e) (remains-end h q b)
+
+module _ (file : List ℕ) {h : Header} (read : IsHeader file h) where
+  pub text-good : {o o′ : List ℕ} {j : Job} {r k : ℕ} → h ≡ header.Good j → Put o 0 (textFrom file j (powerUp file j) 0 (j .cycles)) o′ r k → Put o 0 (textOf file) o′ r k
+  unfolding textOf textBy
+  text-good e q = rw (← read .tells, e) q
+
+  pub text-bad : {o o′ : List ℕ} {n r k : ℕ} → h ≡ header.Refused n → Put o 0 (badLine n) o′ r k → Put o 0 (textOf file) o′ r k
+  unfolding textOf textBy
+  text-bad e q = rw (← read .tells, e) q
+
+-- ---- room, or none
+
+module _ (file o : List ℕ) {n k : ℕ} {x y : List ℕ} (measured : Put x 0 (textOf file) y n k) where
+  pub play-fits : {o′ : List ℕ} {r l : ℕ} → n ≤ length o → Put o 0 (textOf file) o′ r l → IsPlayed file o (played.Text n) o′
+  play-fits h q =
+      let e : n ≡ length (textOf file) = omega (arith, measured .place) in
+      let f : 0 + length (textOf file) ≤ length o = omega arith in
+      let g : length (textOf file) ≤ length o = omega arith in
+      record {
+        tells = rw (le-ltb _ _ g, e);
+        leaves = rw (le-ltb _ _ g) (q .bytes ∙ rw zero-add at (sets-eq (textOf file) o 0 f));
+      }
+
+  pub play-short : length o < n → IsPlayed file o (played.Refused shortOutput) o
+  play-short h =
+      let g : length o < length (textOf file) = omega (arith, measured .place) in
+      record { tells = rw (lt-ltb _ _ g); leaves = rw (lt-ltb _ _ g) }

@@ -1,0 +1,146 @@
+-- A job's header: the scan over its cycles a turn at a time, and what the test of its sizes says.
+-- Assumes nothing.
+use Prim.Native.Nat.{ℕ, suc, _+_, _*_, _-_, _≤_, _<_}
+use mathlib.Core.Path.{_≡_, refl, sym, ap, _∙_}
+use mathlib.Core.Bool.{Bool, true, false, _||_}
+use mathlib.Core.List.{List}
+use native.Mathlib.Numerals.{add-one}
+use native.Mathlib.Omega.{arith}
+use borrow.Author.Tests.{ltb-false, eqb-true, not-false, lt-ltb, le-ltb, eq-eqb}
+use lib.ListN.{length}
+use Rattle.instructions.specs.Refusal.{shortJob, wrongHeader, wrongCycle}
+use Rattle.instructions.specs.Told.{given, refused}
+use Rattle.controller.specs.Cycle.{malformed}
+use Rattle.streams.proofs.Cases.{split, less}
+use Rattle.jobs.specs.Header.{wordAt, cycleAt, wrongSizes, wrongCycles, headerOf, toldHeader, IsHeader}
+use Rattle.jobs.specs.Output.{Holds}
+use Rattle.jobs.specs.declared.header.Job.{Job}
+use Rattle.jobs.specs.declared.header.Header.{Header}
+use Rattle.jobs.specs.declared.header.Header.the-variants.{Good}
+
+-- ---- the cycles, from i on
+
+module _ (file : List ℕ) (n i : ℕ) (h : i < n) where
+  left : n - i ≡ suc (n - (i + 1))
+  left = omega arith
+
+  pub scan-good : malformed (cycleAt file i .0) (cycleAt file i .1) ≡ false → wrongCycles file i (n - i) ≡ wrongCycles file (i + 1) (n - (i + 1))
+  unfolding wrongCycles
+  scan-good e = rw (left, e, add-one i)
+
+  pub scan-wrong : malformed (cycleAt file i .0) (cycleAt file i .1) ≡ true → wrongCycles file i (n - i) ≡ true
+  unfolding wrongCycles
+  scan-wrong e = rw (left, e)
+
+pub scan-end : (file : List ℕ) (n i : ℕ) → n ≤ i → wrongCycles file i (n - i) ≡ false
+unfolding wrongCycles
+scan-end file n i h = let e : n - i ≡ 0 = omega arith in rw e
+
+-- ---- the sizes
+
+-- what a job's sizes are where none is wrong
+pub record Sized (n cycles p pictures total : ℕ) : Type 0 where
+  pub few : n ≤ 16000
+  pub cycles-at : cycles ≡ 8
+  pub two : p ≤ 2
+  pub pictures-at : pictures ≡ 8 + 2 * n
+  pub whole : total ≡ 8 + 2 * n + 1188 * p
+
+neither : (a b : Bool) → a || b ≡ false → (a ≡ false) × (b ≡ false)
+neither false b e = (refl, e)
+neither true b e = absurd (let z : _≡_ {A = ℕ} 0 1 = cc in omega arith)
+
+pub sizes-right : (n cycles p pictures total : ℕ) → wrongSizes n cycles p pictures total ≡ false → Sized n cycles p pictures total
+unfolding wrongSizes
+sizes-right n cycles p pictures total e =
+    let a = neither _ _ e in
+    let b = neither _ _ (a .0) in
+    let c = neither _ _ (b .0) in
+    let d = neither _ _ (c .0) in
+    record {
+      few = ltb-false _ _ (d .0);
+      cycles-at = eqb-true _ _ (not-false _ (d .1));
+      two = ltb-false _ _ (c .1);
+      pictures-at = eqb-true _ _ (not-false _ (b .1));
+      whole = eqb-true _ _ (not-false _ (a .1));
+    }
+
+pub right-sizes : (n cycles p pictures total : ℕ) → Sized n cycles p pictures total → wrongSizes n cycles p pictures total ≡ false
+unfolding wrongSizes
+right-sizes n cycles p pictures total s =
+    rw (le-ltb 16000 n (s .few), eq-eqb cycles 8 (s .cycles-at), le-ltb 2 p (s .two), eq-eqb pictures (8 + 2 * n) (s .pictures-at), eq-eqb total (8 + 2 * n + 1188 * p) (s .whole))
+
+-- ---- the four ways through a header
+
+-- the four numbers of a header
+pub record Words (file : List ℕ) (n cycles p pictures : ℕ) : Type 0 where
+  pub first : n ≡ wordAt file 0
+  pub second : cycles ≡ wordAt file 2
+  pub third : p ≡ wordAt file 4
+  pub fourth : pictures ≡ wordAt file 6
+
+pub header-short : (file : List ℕ) → length file < 8 → refused shortJob ≡ headerOf file
+unfolding headerOf
+header-short file h = rw (lt-ltb _ _ h)
+
+module _ (file : List ℕ) {n cycles p pictures : ℕ} (w : Words file n cycles p pictures) (h : 8 ≤ length file) where
+  pub header-sizes : wrongSizes n cycles p pictures (length file) ≡ true → refused wrongHeader ≡ headerOf file
+  unfolding headerOf
+  header-sizes s = rw (le-ltb _ _ h, ← w .first, ← w .second, ← w .third, ← w .fourth, s)
+
+  module _ (s : wrongSizes n cycles p pictures (length file) ≡ false) where
+    pub header-cycle : wrongCycles file 0 n ≡ true → refused wrongCycle ≡ headerOf file
+    unfolding headerOf
+    header-cycle e = rw (le-ltb _ _ h, ← w .first, ← w .second, ← w .third, ← w .fourth, s, e)
+
+    pub header-good : wrongCycles file 0 n ≡ false → given (record { cycles = n; pictures = p }) ≡ headerOf file
+    unfolding headerOf
+    header-good e = rw (le-ltb _ _ h, ← w .first, ← w .second, ← w .third, ← w .fourth, s, e)
+
+-- the tests of a whole file
+abbrev pub sizesWrong : List ℕ → Bool
+sizesWrong file = wrongSizes (wordAt file 0) (wordAt file 2) (wordAt file 4) (wordAt file 6) (length file)
+
+abbrev pub cyclesWrong : List ℕ → Bool
+cyclesWrong file = wrongCycles file 0 (wordAt file 0)
+
+abbrev pub jobOf : List ℕ → Job
+jobOf file = record { cycles = wordAt file 0; pictures = wordAt file 4 }
+
+-- which way a file goes
+pub data Way (file : List ℕ) : Type 0 where
+  short : length file < 8 → headerOf file ≡ refused shortJob → Way file
+  sizes : 8 ≤ length file → sizesWrong file ≡ true → headerOf file ≡ refused wrongHeader → Way file
+  cycle : 8 ≤ length file → sizesWrong file ≡ false → cyclesWrong file ≡ true → headerOf file ≡ refused wrongCycle → Way file
+  good : 8 ≤ length file → sizesWrong file ≡ false → cyclesWrong file ≡ false → headerOf file ≡ given (jobOf file) → Way file
+
+words : (file : List ℕ) → Words file (wordAt file 0) (wordAt file 2) (wordAt file 4) (wordAt file 6)
+words file = record { first = refl; second = refl; third = refl; fourth = refl }
+
+pub way : (file : List ℕ) → Way file
+way file = less (length file) 8
+    (λ h. short h (sym (header-short file h)))
+    (λ h. split (sizesWrong file)
+    (λ s. sizes h s (sym (header-sizes file (words file) h s)))
+    (λ s. split (cyclesWrong file)
+    (λ e. cycle h s e (sym (header-cycle file (words file) h s e)))
+    (λ e. good h s e (sym (header-good file (words file) h s e)))))
+
+-- ---- a good header's job is the file's, and the file holds it whole
+
+pub given-refused : {A : Type 0} {x : A} {n : ℕ} → given x ≡ refused n → ⊥
+given-refused e = let f = ap (λ t. t .value) e in let z : _≡_ {A = ℕ} 0 1 = cc in omega arith
+
+pub given-one : {A : Type 0} {x y : A} → given x ≡ given y → x ≡ y
+given-one e = let f = ap (λ t. t .value) e in cc
+
+holds-by : (file : List ℕ) (j : Job) → Way file → given j ≡ headerOf file → Holds file j
+holds-by file j (short h e) f = absurd (given-refused (f ∙ e))
+holds-by file j (sizes h s e) f = absurd (given-refused (f ∙ e))
+holds-by file j (cycle h s c e) f = absurd (given-refused (f ∙ e))
+holds-by file j (good h s c e) f =
+    let z = sizes-right _ _ _ _ _ s in
+    rw (given-one (f ∙ e)) (record { few = z .few; two = z .two; whole = z .whole })
+
+pub header-holds : (file : List ℕ) {a : Header} {j : Job} → IsHeader file a → a ≡ Good j → Holds file j
+header-holds file {j = j} q e = holds-by file j (way file) (ap toldHeader (sym e) ∙ q .tells)

@@ -1,0 +1,57 @@
+-- A job file: its header, its cycles and its pictures, and what is refused.
+-- Assumes nothing.
+use Prim.Native.Nat.{ℕ, zero, suc, _+_, _*_}
+use mathlib.Core.Path.{_≡_}
+use mathlib.Core.Bool.{Bool, false, cond, not, _||_}
+use mathlib.Core.List.{List}
+use lib.ListN.{length, getD, take, drop}
+use lib.Dec.{ltb, eqb}
+use Rattle.instructions.specs.Refusal.{shortJob, wrongHeader, wrongCycle}
+use Rattle.instructions.specs.Told.{Told, given, refused}
+use Rattle.controller.specs.Cycle.{malformed}
+use Rattle.controller.specs.Run.{BusCycle}
+use Rattle.jobs.specs.declared.header.Job.{Job}
+use Rattle.jobs.specs.declared.header.Header.{Header}
+use Rattle.jobs.specs.declared.header.Header.the-variants.{Good, Refused}
+
+-- a 16-bit number, low byte first
+unfoldable pub wordAt : List ℕ → ℕ → ℕ
+wordAt file at = getD file at 0 + 256 * getD file (at + 1) 0
+
+-- cycle i is two bytes, kind and value
+abbrev pub cycleAt : List ℕ → ℕ → BusCycle
+cycleAt file i = (getD file (8 + 2 * i) 0, getD file (9 + 2 * i) 0)
+
+-- pictures follow the n cycles: the memory at power-up, and a wanted picture
+abbrev pub picture1 : List ℕ → ℕ → List ℕ
+picture1 file n = take 1188 (drop (8 + 2 * n) file)
+
+abbrev pub picture2 : List ℕ → ℕ → List ℕ
+picture2 file n = take 1188 (drop (8 + 2 * n + 1188) file)
+
+-- N ≤ 16,000, P ≤ 2, offsets 8 and 8 + 2N, total 8 + 2N + 1,188·P: one of them is wrong
+unfoldable pub wrongSizes : ℕ → ℕ → ℕ → ℕ → ℕ → Bool
+wrongSizes n cycles p pictures total =
+    ltb 16000 n || not (eqb cycles 8) || ltb 2 p || not (eqb pictures (8 + 2 * n)) || not (eqb total (8 + 2 * n + 1188 * p))
+
+-- one of the n cycles from i on is no cycle
+unfoldable pub wrongCycles : List ℕ → ℕ → ℕ → Bool
+wrongCycles file i zero = false
+wrongCycles file i (suc n) = malformed (cycleAt file i .0) (cycleAt file i .1) || wrongCycles file (suc i) n
+
+-- a file is refused with 7, 8, 9 in this order, or is a job of N cycles and P pictures
+unfoldable pub headerOf : List ℕ → Told Job
+headerOf file =
+    cond (ltb (length file) 8) (refused shortJob)
+    (cond (wrongSizes (wordAt file 0) (wordAt file 2) (wordAt file 4) (wordAt file 6) (length file)) (refused wrongHeader)
+    (cond (wrongCycles file 0 (wordAt file 0)) (refused wrongCycle)
+    (given (record { cycles = wordAt file 0; pictures = wordAt file 4 }))))
+
+-- an answer as the paper tells it
+abbrev pub toldHeader : Header → Told Job
+toldHeader (Good j) = given j
+toldHeader (Refused n) = refused n
+
+-- what read_header promises
+pub record IsHeader (file : List ℕ) (a : Header) : Type 0 where
+  pub tells : toldHeader a ≡ headerOf file

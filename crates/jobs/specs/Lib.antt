@@ -1,0 +1,4 @@
+pub mod Header
+pub mod Text
+pub mod Play
+pub mod Output

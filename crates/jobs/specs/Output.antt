@@ -1,0 +1,49 @@
+-- Internal: what the functions that put text into an output promise each other. No public promise cites it.
+-- Assumes nothing.
+use Prim.Native.Nat.{ℕ, _+_, _*_, _≤_}
+use mathlib.Core.Path.{_≡_}
+use mathlib.Core.List.{List, _++_}
+use lib.ListN.{length}
+use lib.Seq.{sets}
+use mathlib.Core.Bool.{false}
+use Rattle.instructions.specs.Numbers.{numbers0713}
+use Rattle.controller.specs.Registers.{start}
+use Rattle.controller.specs.State.{State, state, step}
+use Rattle.controller.specs.declared.registers.Registers.{Registers}
+use Rattle.jobs.specs.Header.{cycleAt}
+use Rattle.jobs.specs.Text.{field, newline, flag, modifyFlag}
+use Rattle.jobs.specs.Play.{lineOf, answerAt}
+use Rattle.jobs.specs.declared.header.Job.{Job}
+
+-- `before` with `text` from `at` on, as far as it reaches, is `after`; `next` is the place past the text, at most `most` further
+pub record Put (before : List ℕ) (at : ℕ) (text after : List ℕ) (next most : ℕ) : Type 0 where
+  pub bytes : after ≡ sets before at text
+  pub place : next ≡ at + length text
+  pub near : next ≤ at + most
+
+-- of the text `whole`, which is to stand at the start of `first`, `rest` is still to be put into `now`, at `at`
+pub record Remains (whole first now : List ℕ) (at : ℕ) (rest : List ℕ) : Type 0 where
+  pub bytes : sets first 0 whole ≡ sets now at rest
+  pub count : length whole ≡ at + length rest
+
+-- a job that a file holds whole
+pub record Holds (file : List ℕ) (j : Job) : Type 0 where
+  pub few : j .cycles ≤ 16000
+  pub two : j .pictures ≤ 2
+  pub whole : length file ≡ 8 + 2 * j .cycles + 1188 * j .pictures
+
+-- a turn: cycle i of a file from the state s, with the output o at `at`
+pub record Turned (file : List ℕ) (i : ℕ) (s : State) (o : List ℕ) (at : ℕ) (s′ : State) (o′ : List ℕ) (at′ : ℕ) : Type 0 where
+  pub after : s′ ≡ step numbers0713 s (cycleAt file i)
+  pub line : Put o at (lineOf i (answerAt file i s)) o′ at′ 44
+
+-- the end line from `on` on, and from SHL on
+abbrev pub lastFields : Registers → List ℕ
+lastFields r = field (flag (r .on)) ++ (field (modifyFlag (r .«modify_read»)) ++ (field (r .contrast) ++ newline))
+
+abbrev pub flagFields : Registers → List ℕ
+flagFields r = field (flag (r .shl)) ++ (field (flag (r .adc)) ++ (field (flag (r .reverse)) ++ (field (flag (r .entire)) ++ lastFields r)))
+
+-- the chip at power-up, with this memory
+abbrev pub poweredUp : List ℕ → State
+poweredUp m = state (start numbers0713 0 false) m

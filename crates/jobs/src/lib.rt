@@ -1,0 +1,4 @@
+// Job files: their header, and the whole text that playing one gives.
+pub mod header;
+pub mod play;
+mod text;

@@ -1,0 +1,187 @@
+// Playing a job: the whole text, put into a lent output.
+use crate::header::Header;
+use crate::header::Job;
+use crate::header::read_header;
+use crate::text::put_bad;
+use crate::text::put_end;
+use crate::text::put_read;
+use crate::text::put_refusal;
+use crate::text::put_update;
+use controller::cycle::Answer;
+use controller::cycle::cycle;
+use controller::registers::Registers;
+use controller::start::power_up;
+use instructions::refusal::SHORT_OUTPUT;
+use planner::count::Count;
+use planner::length::update_length;
+ghost use mathlib.Core.Path.{_≡_};
+ghost use Prim.Native.Nat.{_+_, _*_, _<_, _≤_};
+ghost use lib.ListN.{length, take, drop, replicate};
+ghost use Rattle.controller.specs.State.{state};
+ghost use Rattle.streams.specs.Length.{updateLength};
+ghost use Rattle.jobs.specs.Header.{picture2};
+ghost use Rattle.jobs.specs.Play.{ending, textFrom, startMemory, powerUp, textOf, IsPlayed};
+ghost use Rattle.jobs.specs.Output.{Put, Remains, Turned, Holds, poweredUp};
+
+// The length of the text, or the number of a refusal.
+pub enum Played {
+    Text(usize),
+    Refused(u8),
+}
+
+// After a turn: the registers, and the place in the output.
+struct After {
+    registers: Registers,
+    at: usize,
+}
+
+// One cycle, with its line where it has one.
+fn turn(
+    file: &[u8],
+    i: usize,
+    registers: Registers,
+    memory: &mut [u8],
+    out: &mut [u8],
+    at: usize,
+) -> After
+    requires { ⌜ (10 + 2 * i ≤ length (now file)) × (at < 1000000) ⌝ }
+    ensures { λ a. ⌜ Turned (now (file .entry)) i (state registers (now (memory .entry))) (now (out .entry)) at
+        (state (a .registers) (now (memory .exit))) (now (out .exit)) (a .at) ⌝ }
+{
+    match cycle(registers, memory, file[8 + 2 * i], file[9 + 2 * i]) {
+        Answer::Done(next) => After {
+            registers: next,
+            at,
+        },
+        Answer::Status(byte) => After {
+            registers,
+            at: put_read(out, at, i, byte),
+        },
+        Answer::Read(byte, next) => After {
+            registers: next,
+            at: put_read(out, at, i, byte),
+        },
+        Answer::Refused(number) => After {
+            registers,
+            at: put_refusal(out, at, i, number),
+        },
+    }
+}
+
+// All the cycles, from power-up: what is left to put is the ending.
+fn play_cycles(file: &[u8], job: Job, memory: &mut [u8], out: &mut [u8]) -> After
+    requires { ⌜ Holds (now file) job ⌝ }
+    ensures { λ a. ⌜ Remains (textFrom (now (file .entry)) job (poweredUp (now (memory .entry))) 0 (job .cycles)) (now (out .entry)) (now (out .exit)) (a .at)
+        (ending (now (file .entry)) job (state (a .registers) (now (memory .exit)))) × (a .at ≤ 704000) ⌝ }
+{
+    let mut after = After {
+        registers: power_up(),
+        at: 0,
+    };
+    let mut i = 0;
+    while i < job.cycles {
+        let registers = after.registers;
+        after = turn(file, i, registers, memory, out, after.at);
+        i += 1;
+    }
+    after
+}
+
+// How many bytes the update to picture 2 has.
+fn wanted_length(file: &[u8], job: Job, memory: &[u8]) -> usize
+    requires { ⌜ Holds (now file) job × (2 ≤ job .pictures) × (length (now memory) ≡ 1188) ⌝ }
+    ensures { λ r. ⌜ r ≡ updateLength 132 (now (memory .entry)) (picture2 (now (file .entry)) (job .cycles)) ⌝ }
+{
+    let from = 8 + 2 * job.cycles + 1188;
+    let to = from + 1188;
+    match update_length(memory, &file[from..to]) {
+        Count::Bytes(n) => n,
+        Count::Refused(_) => 0,
+    }
+}
+
+// The last lines.
+fn finish(
+    file: &[u8],
+    job: Job,
+    registers: Registers,
+    memory: &[u8],
+    out: &mut [u8],
+    at: usize,
+) -> usize
+    requires { ⌜ Holds (now file) job × (length (now memory) ≡ 1188) × (at ≤ 704000) ⌝ }
+    ensures { λ a. ⌜ Put (now (out .entry)) at (ending (now (file .entry)) job (state registers (now (memory .entry)))) (now (out .exit)) a 242 ⌝ }
+{
+    let next = put_end(out, at, registers);
+    if job.pictures < 2 {
+        return next;
+    }
+    let n = wanted_length(file, job, memory);
+    put_update(out, next, n)
+}
+
+// A memory of zeros.
+fn blank() -> [u8; 1188]
+    ensures { λ r. ⌜ (1188 ≡ length r) × (r ≡ replicate 1188 0) ⌝ }
+{
+    [0u8; 1188]
+}
+
+// A picture as an array.
+fn load(file: &[u8], from: usize) -> [u8; 1188]
+    requires { ⌜ from + 1188 ≤ length (now file) ⌝ }
+    ensures { λ r. ⌜ (1188 ≡ length r) × (r ≡ take 1188 (drop from (now (file .entry)))) ⌝ }
+{
+    let mut memory = blank();
+    let mut i = 0;
+    while i < 1188 {
+        memory[i] = file[from + i];
+        i += 1;
+    }
+    memory
+}
+
+// The memory at power-up: picture 1, or zeros.
+fn start_memory(file: &[u8], job: Job) -> [u8; 1188]
+    requires { ⌜ Holds (now file) job ⌝ }
+    ensures { λ r. ⌜ (1188 ≡ length r) × (r ≡ startMemory (now (file .entry)) job) ⌝ }
+{
+    if job.pictures < 1 {
+        return blank();
+    }
+    load(file, 8 + 2 * job.cycles)
+}
+
+// The text of a good job.
+fn put_good(file: &[u8], job: Job, out: &mut [u8]) -> usize
+    requires { ⌜ Holds (now file) job ⌝ }
+    ensures { λ r. ⌜ Put (now (out .entry)) 0 (textFrom (now (file .entry)) job (powerUp (now (file .entry)) job) 0 (job .cycles)) (now (out .exit)) r 704242 ⌝ }
+{
+    let mut memory = start_memory(file, job);
+    let after = play_cycles(file, job, &mut memory, out);
+    finish(file, job, after.registers, &memory, out, after.at)
+}
+
+// The text of any file, as much of it as the output has room for: answers its whole length.
+fn put_text(file: &[u8], out: &mut [u8]) -> usize
+    ensures { λ r. ⌜ Put (now (out .entry)) 0 (textOf (now (file .entry))) (now (out .exit)) r 704242 ⌝ }
+{
+    match read_header(file) {
+        Header::Good(job) => put_good(file, job, out),
+        Header::Refused(number) => put_bad(out, 0, number),
+    }
+}
+
+// Plays a job file from power-up and puts its whole text into the output. Answers the text's length; refuses with 5 where the
+// output is shorter, and then leaves it as it was. A longer output keeps its bytes past the text.
+pub fn play(file: &[u8], out: &mut [u8]) -> Played
+    ensures { λ a. ⌜ IsPlayed (now (file .entry)) (now (out .entry)) a (now (out .exit)) ⌝ }
+{
+    let mut none = [0u8; 1];
+    let n = put_text(file, &mut none);
+    if n <= out.len() {
+        put_text(file, out);
+        return Played::Text(n);
+    }
+    Played::Refused(SHORT_OUTPUT)
+}

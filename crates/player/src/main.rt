@@ -1,0 +1,95 @@
+// The player: reads one job from standard input, plays it, and writes its text to standard output.
+use jobs::play::Played;
+use jobs::play::play;
+ghost use mathlib.Core.Path.{_≡_};
+ghost use Prim.Native.Nat.{_+_, _≤_};
+ghost use lib.ListN.{length, take};
+ghost use Rattle.jobs.specs.Play.{longest, textOf};
+
+// How many bytes came, and whether a read failed.
+struct Input {
+    count: usize,
+    failed: bool,
+}
+
+// One read into the buffer, from a place on.
+fn read_some(buffer: &mut [u8], from: usize) -> Input
+    requires { ⌜ from ≤ length (now buffer) ⌝ }
+    ensures { λ r. ⌜ from + r .count ≤ length (now (buffer .exit)) ⌝ }
+{
+    let rest = &mut buffer[from..];
+    let got = libc::read(libc::STDIN_FILENO, rest);
+    Input {
+        count: io::count(got, rest),
+        failed: got < 0,
+    }
+}
+
+// Reads standard input to its end, or until the buffer is full.
+fn read_all(buffer: &mut [u8]) -> Input
+    ensures { λ r. ⌜ r .count ≤ length (now (buffer .exit)) ⌝ }
+{
+    let mut n = 0;
+    while n < buffer.len() {
+        let input = read_some(buffer, n);
+        if input.failed {
+            return input;
+        }
+        if input.count == 0 {
+            break;
+        }
+        n += input.count;
+    }
+    Input {
+        count: n,
+        failed: false,
+    }
+}
+
+// Room for the text of any file. It stands in a function of its own, so that its bytes are not computed where it is used.
+fn room() -> [u8; 210000]
+    ensures { λ r. ⌜ longest ≡ length r ⌝ }
+{
+    [0; 210000]
+}
+
+// The text of a file, put into room for any text: play never refuses it.
+fn play_text(file: &[u8], text: &mut [u8]) -> usize
+    requires { ⌜ longest ≤ length (now text) ⌝ }
+    ensures { λ n. ⌜ (n ≡ length (textOf (now (file .entry)))) × (n ≤ longest) × (take n (now (text .exit)) ≡ textOf (now (file .entry))) ⌝ }
+{
+    match play(file, text) {
+        Played::Text(n) => n,
+        Played::Refused(_) => 0,
+    }
+}
+
+// Plays the file into the text and writes it out.
+fn write_text(file: &[u8], text: &mut [u8]) -> bool
+    requires { ⌜ longest ≤ length (now text) ⌝ }
+    ensures { λ _. ⌜ take (length (textOf (now (file .entry)))) (now (text .exit)) ≡ textOf (now (file .entry)) ⌝ }
+{
+    let n = play_text(file, text);
+    io::write_all(libc::STDOUT_FILENO, &text[0..n])
+}
+
+// 65,536 bytes are more than any good job has, so a file that is cut there is refused with 8, as the whole of it is.
+fn main() {
+    let mut file = io::large_buffer();
+    let mut text = room();
+    let input = read_all(&mut file);
+    if input.failed {
+        io::write_all(
+            libc::STDERR_FILENO,
+            b"player: standard input cannot be read\n",
+        );
+        return;
+    }
+    let written = write_text(&file[..input.count], &mut text);
+    if !written {
+        io::write_all(
+            libc::STDERR_FILENO,
+            b"player: standard output cannot be written\n",
+        );
+    }
+}

@@ -12,7 +12,8 @@ use borrow.Author.Tests.{ltb-true, ltb-false, lt-ltb, le-ltb}
 use lib.Dec.{T, ltb}
 use lib.ListN.{length, drop}
 use Rattle.instructions.specs.Refusal.{shortOutput, shortJob, wrongHeader, wrongCycle}
-use Rattle.instructions.specs.Told.{refused}
+use Rattle.instructions.specs.Told.{Told, refused}
+use Rattle.instructions.proofs.Telling.{apart, not-given}
 use Rattle.controller.specs.Cycle.{malformed}
 use Rattle.streams.proofs.Cases.{split, less}
 use Rattle.planner.proofs.Exactly.{Exactly, then, both, same-number, here, past, nowhere}
@@ -23,39 +24,44 @@ use Rattle.jobs.specs.declared.header.Header.{Header}
 use Rattle.jobs.specs.declared.header.Header.the-variants as header
 use Rattle.jobs.specs.declared.play.Played.{Played}
 use Rattle.jobs.specs.declared.play.Played.the-variants as played
-use Rattle.jobs.proofs.Scan.{Sized, sizes-right, right-sizes, sizesWrong, cyclesWrong, jobOf, Way, short, sizes, cycle, good, way, given-refused}
+use Rattle.jobs.proofs.Scan.{Sized, sizes-right, right-sizes, sizesWrong, cyclesWrong, jobOf, Way, short, sizes, cycle, good, way}
 use Rattle.jobs.proofs.Bound.{text-fits}
 
 -- ---- one answer
 
-headerBy : ℕ → Option Job → Header
-headerBy n (some j) = header.Good j
-headerBy n none = header.Refused n
+headerBy : Told Job → Header
+headerBy t = by (t .number) (t .value)
+  where
+    by : ℕ → Option Job → Header
+    by n (some j) = header.Good j
+    by n none = header.Refused n
 
-header-back : (a : Header) → headerBy (toldHeader a .number) (toldHeader a .value) ≡ a
+header-back : (a : Header) → headerBy (toldHeader a) ≡ a
 unfolding headerBy
 header-back (header.Good j) = refl
 header-back (header.Refused n) = refl
 
--- headers that are told alike are equal
-pub header-told : (a b : Header) → toldHeader a ≡ toldHeader b → a ≡ b
-header-told a b e = sym (header-back a) ∙ ap (λ t. headerBy (t .number) (t .value)) e ∙ header-back b
+header-told : (a b : Header) → toldHeader a ≡ toldHeader b → a ≡ b
+header-told = apart toldHeader headerBy header-back
 
 -- two headers that the promise admits are equal
 pub header-one : {file : List ℕ} {a b : Header} → IsHeader file a → IsHeader file b → a ≡ b
 header-one {a = a} {b = b} f g = header-told a b (f .tells ∙ sym (g .tells))
 
-playedBy : ℕ → Option ℕ → Played
-playedBy n (some k) = played.Text k
-playedBy n none = played.Refused n
+playedBy : Told ℕ → Played
+playedBy t = by (t .number) (t .value)
+  where
+    by : ℕ → Option ℕ → Played
+    by n (some k) = played.Text k
+    by n none = played.Refused n
 
-played-back : (a : Played) → playedBy (toldPlayed a .number) (toldPlayed a .value) ≡ a
+played-back : (a : Played) → playedBy (toldPlayed a) ≡ a
 unfolding playedBy
 played-back (played.Text k) = refl
 played-back (played.Refused n) = refl
 
-pub played-told : (a b : Played) → toldPlayed a ≡ toldPlayed b → a ≡ b
-played-told a b e = sym (played-back a) ∙ ap (λ t. playedBy (t .number) (t .value)) e ∙ played-back b
+played-told : (a b : Played) → toldPlayed a ≡ toldPlayed b → a ≡ b
+played-told = apart toldPlayed playedBy played-back
 
 -- two answers and outputs that the promise admits are equal
 pub played-one : {file out : List ℕ} {a b : Played} {l m : List ℕ} → IsPlayed file out a l → IsPlayed file out b m → (a ≡ b) × (l ≡ m)
@@ -167,7 +173,7 @@ only-by : (file : List ℕ) (n : ℕ) → Way file → refused n ≡ headerOf fi
 only-by file n (short h e) f = inl (ap (λ t. t .number) (f ∙ e))
 only-by file n (sizes h s e) f = inr (inl (ap (λ t. t .number) (f ∙ e)))
 only-by file n (cycle h s c e) f = inr (inr (ap (λ t. t .number) (f ∙ e)))
-only-by file n (good h s c e) f = absurd (given-refused (sym (f ∙ e)))
+only-by file n (good h s c e) f = absurd (not-given (f ∙ e))
 
 pub header-only : (file : List ℕ) (n : ℕ) → IsHeader file (header.Refused n) → (n ≡ shortJob) ⊎ ((n ≡ wrongHeader) ⊎ (n ≡ wrongCycle))
 header-only file n f = only-by file n (way file) (f .tells)
@@ -186,7 +192,7 @@ module _ (file out : List ℕ) (a : Played) (left : List ℕ) (f : IsPlayed file
 
   pub played-5 : Exactly (a ≡ played.Refused shortOutput) (length out < length (textOf file))
   played-5 = (
-    λ e. less (length out) (length (textOf file)) (λ h. h) (λ h. absurd (given-refused (sym (ap toldPlayed (sym e ∙ played-long h .0))))),
+    λ e. less (length out) (length (textOf file)) (λ h. h) (λ h. absurd (not-given (ap toldPlayed (sym e ∙ played-long h .0)))),
     λ h. played-short h .0,
   )
 
@@ -197,7 +203,7 @@ module _ (file out : List ℕ) (a : Played) (left : List ℕ) (f : IsPlayed file
 pub played-only : (file out : List ℕ) (n : ℕ) (left : List ℕ) → IsPlayed file out (played.Refused n) left → n ≡ shortOutput
 played-only file out n left f = less (length out) (length (textOf file))
     (λ h. ap (λ t. t .number) (ap toldPlayed (played-short file out _ left f h .0)))
-    (λ h. absurd (given-refused (sym (ap toldPlayed (played-long file out _ left f h .0)))))
+    (λ h. absurd (not-given (ap toldPlayed (played-long file out _ left f h .0))))
 
 pub played-not-0 : (file out left : List ℕ) → IsPlayed file out (played.Refused 0) left → ⊥
 played-not-0 file out left f = omega (arith, played-only file out 0 left f)

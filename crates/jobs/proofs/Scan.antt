@@ -10,6 +10,7 @@ use borrow.Author.Tests.{ltb-false, eqb-true, not-false, lt-ltb, le-ltb, eq-eqb}
 use lib.ListN.{length}
 use Rattle.instructions.specs.Refusal.{shortJob, wrongHeader, wrongCycle}
 use Rattle.instructions.specs.Told.{given, refused}
+use Rattle.instructions.proofs.Telling.{given-one, not-given}
 use Rattle.controller.specs.Cycle.{malformed}
 use Rattle.streams.proofs.Cases.{split, less}
 use Rattle.jobs.specs.Header.{wordAt, cycleAt, wrongSizes, wrongCycles, headerOf, toldHeader, IsHeader}
@@ -128,16 +129,10 @@ way file = less (length file) 8
 
 -- ---- a good header's job is the file's, and the file holds it whole
 
-pub given-refused : {A : Type 0} {x : A} {n : ℕ} → given x ≡ refused n → ⊥
-given-refused e = let f = ap (λ t. t .value) e in let z : _≡_ {A = ℕ} 0 1 = cc in omega arith
-
-pub given-one : {A : Type 0} {x y : A} → given x ≡ given y → x ≡ y
-given-one e = let f = ap (λ t. t .value) e in cc
-
 holds-by : (file : List ℕ) (j : Job) → Way file → given j ≡ headerOf file → Holds file j
-holds-by file j (short h e) f = absurd (given-refused (f ∙ e))
-holds-by file j (sizes h s e) f = absurd (given-refused (f ∙ e))
-holds-by file j (cycle h s c e) f = absurd (given-refused (f ∙ e))
+holds-by file j (short h e) f = absurd (not-given (sym (f ∙ e)))
+holds-by file j (sizes h s e) f = absurd (not-given (sym (f ∙ e)))
+holds-by file j (cycle h s c e) f = absurd (not-given (sym (f ∙ e)))
 holds-by file j (good h s c e) f =
     let z = sizes-right _ _ _ _ _ s in
     rw (given-one (f ∙ e)) (record { few = z .few; two = z .two; whole = z .whole })

@@ -1,0 +1,74 @@
+// Plays each file of data/ and writes its name and its text: the output is compared with `stdout`.
+use jobs::play::Played;
+use jobs::play::play;
+ghost use mathlib.Core.Path.{_≡_};
+ghost use lib.ListN.{length};
+ghost use Rattle.jobs.specs.Play.{longest};
+
+// Room for the text of any file, in a function of its own, so that its bytes are not computed where it is used.
+fn room() -> [u8; 210000]
+    ensures { λ r. ⌜ longest ≡ length r ⌝ }
+{
+    [0; 210000]
+}
+
+// The text of a file.
+fn tell(file: &[u8], text: &mut [u8]) {
+    match play(file, text) {
+        Played::Text(n) => {
+            if n <= text.len() {
+                io::write_all(1, &text[0..n]);
+            }
+        }
+        Played::Refused(_) => {
+            io::write_all(1, b"no room\n");
+        }
+    }
+}
+
+// The name of an example, and its text.
+fn example(name: &[u8]) {
+    io::write_all(1, name);
+    io::write_all(1, b"\n");
+    let from = os::open_read(name);
+    if from < 0 {
+        io::write_all(1, b"missing\n");
+        return;
+    }
+    let mut file = io::large_buffer();
+    let n = io::read_full(from, &mut file);
+    libc::close(from);
+    let mut text = room();
+    tell(&file[..n], &mut text);
+}
+
+// What the player shows.
+fn good() {
+    example(b"worked.job");
+    example(b"dummy-read.job");
+    example(b"modify-read.job");
+    example(b"restart.job");
+    example(b"page-nine.job");
+    example(b"refused.job");
+    example(b"update.job");
+}
+
+// Damaged files, of each kind.
+fn bad() {
+    example(b"empty.job");
+    example(b"seven-bytes.job");
+    example(b"many-cycles.job");
+    example(b"wrapped.job");
+    example(b"cycle-offset.job");
+    example(b"picture-offset.job");
+    example(b"three-pictures.job");
+    example(b"byte-short.job");
+    example(b"byte-long.job");
+    example(b"kind-six.job");
+    example(b"status-value.job");
+}
+
+fn main() {
+    good();
+    bad();
+}

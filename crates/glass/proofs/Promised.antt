@@ -26,7 +26,7 @@ use Rattle.glass.specs.declared.power.Powered.{Powered}
 use Rattle.glass.specs.declared.power.Powered.the-variants as powered
 use Rattle.glass.specs.declared.voltage.Voltage.{Voltage}
 use Rattle.glass.specs.declared.voltage.Voltage.the-variants as voltage
-use Rattle.instructions.proofs.Telling.{apart, not-given}
+use Rattle.instructions.proofs.Telling.{apart, answerOf, not-given}
 use Rattle.glass.proofs.Either.{either, or-true}
 use Rattle.glass.proofs.Places.{right-sizes}
 
@@ -50,21 +50,13 @@ module _ {A : Type 0} where
 
 -- ---- the power state
 
-poweredBy : Told PowerState → Powered
-poweredBy t = by (t .number) (t .value)
-  where
-    by : ℕ → Option PowerState → Powered
-    by n (some p) = powered.State p
-    by n none = powered.Refused n
-
-powered-back : (a : Powered) → poweredBy (toldPower a) ≡ a
-unfolding poweredBy
+powered-back : (a : Powered) → answerOf powered.State powered.Refused (toldPower a) ≡ a
 powered-back (powered.State p) = refl
 powered-back (powered.Refused n) = refl
 
 -- answers that are told alike are equal
 power-told : (a b : Powered) → toldPower a ≡ toldPower b → a ≡ b
-power-told = apart toldPower poweredBy powered-back
+power-told = apart toldPower (answerOf powered.State powered.Refused) powered-back
 
 module _ {c : Numbers} {r : Registers} where
   -- two answers that the promise admits are equal
@@ -86,20 +78,12 @@ module _ {c : Numbers} {r : Registers} where
 
 -- ---- V0
 
-voltageBy : Told ℕ → Voltage
-voltageBy t = by (t .number) (t .value)
-  where
-    by : ℕ → Option ℕ → Voltage
-    by n (some v) = voltage.Fifteenths v
-    by n none = voltage.Refused n
-
-voltage-back : (a : Voltage) → voltageBy (toldVoltage a) ≡ a
-unfolding voltageBy
+voltage-back : (a : Voltage) → answerOf voltage.Fifteenths voltage.Refused (toldVoltage a) ≡ a
 voltage-back (voltage.Fifteenths v) = refl
 voltage-back (voltage.Refused n) = refl
 
 voltage-told : (a b : Voltage) → toldVoltage a ≡ toldVoltage b → a ≡ b
-voltage-told = apart toldVoltage voltageBy voltage-back
+voltage-told = apart toldVoltage (answerOf voltage.Fifteenths voltage.Refused) voltage-back
 
 module _ {k v : ℕ} where
   pub voltage-one : {a b : Voltage} → IsVoltage k v a → IsVoltage k v b → a ≡ b
@@ -130,20 +114,12 @@ module _ {k v : ℕ} where
 
 -- ---- the frame
 
-shownBy : Told (Unit {0}) → Shown
-shownBy t = by (t .number) (t .value)
-  where
-    by : ℕ → Option (Unit {0}) → Shown
-    by n (some x) = shown.Drawn
-    by n none = shown.Refused n
-
-shown-back : (a : Shown) → shownBy (toldShown a) ≡ a
-unfolding shownBy
+shown-back : (a : Shown) → answerOf (λ (x : Unit {0}). shown.Drawn) shown.Refused (toldShown a) ≡ a
 shown-back shown.Drawn = refl
 shown-back (shown.Refused n) = refl
 
 shown-told : (a b : Shown) → toldShown a ≡ toldShown b → a ≡ b
-shown-told = apart toldShown shownBy shown-back
+shown-told = apart toldShown (answerOf (λ (x : Unit {0}). shown.Drawn) shown.Refused) shown-back
 
 -- what is told, by the tests: the sizes are wrong, a register is outside its range
 abbrev told : Bool → Bool → Told (Unit {0})

@@ -11,6 +11,14 @@ use Rattle.instructions.specs.Told.{Told, given, refused}
 pub apart : {A B : Type 0} (told : A → B) (back : B → A) → ((a : A) → back (told a) ≡ a) → (a b : A) → told a ≡ told b → a ≡ b
 apart told back is a b e = sym (is a) ∙ ap back e ∙ is b
 
+-- the answer that is told so, from its two makers: a value, or a refusal's number
+abbrev pub answerBy : {A B : Type 0} → (B → A) → (ℕ → A) → ℕ → Option B → A
+answerBy value number n (some x) = value x
+answerBy value number n none = number n
+
+abbrev pub answerOf : {A B : Type 0} → (B → A) → (ℕ → A) → Told B → A
+answerOf value number t = answerBy value number (t .number) (t .value)
+
 module _ {A : Type 0} where
   pub given-one : {x y : A} → given x ≡ given y → x ≡ y
   given-one e = let f = ap (λ t. t .value) e in cc

@@ -22,43 +22,27 @@ use Rattle.instructions.specs.declared.write.Writing.{Writing}
 use Rattle.instructions.specs.declared.write.Writing.the-variants.{WrittenAs, Unwritten}
 use Rattle.instructions.proofs.Every.{at, left, right}
 use Rattle.instructions.proofs.Pinned.{whole}
-use Rattle.instructions.proofs.Telling.{apart, refused-one, not-given, told-is}
+use Rattle.instructions.proofs.Telling.{apart, answerOf, refused-one, not-given, told-is}
 
 -- ---- the reader
 
-readingBy : Told Instruction → Reading
-readingBy t = by (t .number) (t .value)
-  where
-    by : ℕ → Option Instruction → Reading
-    by n (some i) = ReadAs i
-    by n none = Unread n
-
-reading-back : (r : Reading) → readingBy (toldReading r) ≡ r
-unfolding readingBy
+reading-back : (r : Reading) → answerOf ReadAs Unread (toldReading r) ≡ r
 reading-back (ReadAs i) = refl
 reading-back (Unread n) = refl
 
 -- two readings that the promise admits are equal
 pub read-one : {k : Numbers} {a : Awaited} {b : ℕ} {r s : Reading} → IsRead k a b r → IsRead k a b s → r ≡ s
-read-one {r = r} {s = s} f g = apart toldReading readingBy reading-back r s (f .tells ∙ sym (g .tells))
+read-one {r = r} {s = s} f g = apart toldReading (answerOf ReadAs Unread) reading-back r s (f .tells ∙ sym (g .tells))
 
 -- ---- the writer
 
-writingBy : Told ℕ → Writing
-writingBy t = by (t .number) (t .value)
-  where
-    by : ℕ → Option ℕ → Writing
-    by n (some b) = WrittenAs b
-    by n none = Unwritten n
-
-writing-back : (w : Writing) → writingBy (toldWriting w) ≡ w
-unfolding writingBy
+writing-back : (w : Writing) → answerOf WrittenAs Unwritten (toldWriting w) ≡ w
 writing-back (WrittenAs b) = refl
 writing-back (Unwritten n) = refl
 
 -- two writings that the promise admits are equal
 pub written-one : {k : Numbers} {i : Instruction} {w v : Writing} → IsWritten k i w → IsWritten k i v → w ≡ v
-written-one {w = w} {v = v} f g = apart toldWriting writingBy writing-back w v (f .tells ∙ sym (g .tells))
+written-one {w = w} {v = v} f g = apart toldWriting (answerOf WrittenAs Unwritten) writing-back w v (f .tells ∙ sym (g .tells))
 
 -- ---- number 4: an instruction byte unassigned and nothing awaited, and only then
 

@@ -13,7 +13,7 @@ use lib.Dec.{T, ltb}
 use lib.ListN.{length, drop}
 use Rattle.instructions.specs.Refusal.{shortOutput, shortJob, wrongHeader, wrongCycle}
 use Rattle.instructions.specs.Told.{Told, refused}
-use Rattle.instructions.proofs.Telling.{apart, not-given}
+use Rattle.instructions.proofs.Telling.{apart, answerOf, not-given}
 use Rattle.controller.specs.Cycle.{malformed}
 use Rattle.streams.proofs.Cases.{split, less}
 use Rattle.planner.proofs.Exactly.{Exactly, then, both, same-number, here, past, nowhere}
@@ -29,39 +29,23 @@ use Rattle.jobs.proofs.Bound.{text-fits}
 
 -- ---- one answer
 
-headerBy : Told Job → Header
-headerBy t = by (t .number) (t .value)
-  where
-    by : ℕ → Option Job → Header
-    by n (some j) = header.Good j
-    by n none = header.Refused n
-
-header-back : (a : Header) → headerBy (toldHeader a) ≡ a
-unfolding headerBy
+header-back : (a : Header) → answerOf header.Good header.Refused (toldHeader a) ≡ a
 header-back (header.Good j) = refl
 header-back (header.Refused n) = refl
 
 header-told : (a b : Header) → toldHeader a ≡ toldHeader b → a ≡ b
-header-told = apart toldHeader headerBy header-back
+header-told = apart toldHeader (answerOf header.Good header.Refused) header-back
 
 -- two headers that the promise admits are equal
 pub header-one : {file : List ℕ} {a b : Header} → IsHeader file a → IsHeader file b → a ≡ b
 header-one {a = a} {b = b} f g = header-told a b (f .tells ∙ sym (g .tells))
 
-playedBy : Told ℕ → Played
-playedBy t = by (t .number) (t .value)
-  where
-    by : ℕ → Option ℕ → Played
-    by n (some k) = played.Text k
-    by n none = played.Refused n
-
-played-back : (a : Played) → playedBy (toldPlayed a) ≡ a
-unfolding playedBy
+played-back : (a : Played) → answerOf played.Text played.Refused (toldPlayed a) ≡ a
 played-back (played.Text k) = refl
 played-back (played.Refused n) = refl
 
 played-told : (a b : Played) → toldPlayed a ≡ toldPlayed b → a ≡ b
-played-told = apart toldPlayed playedBy played-back
+played-told = apart toldPlayed (answerOf played.Text played.Refused) played-back
 
 -- two answers and outputs that the promise admits are equal
 pub played-one : {file out : List ℕ} {a b : Played} {l m : List ℕ} → IsPlayed file out a l → IsPlayed file out b m → (a ≡ b) × (l ≡ m)

@@ -14,7 +14,7 @@ use lib.ListN.{length}
 use lib.Dec.{ltb, eqb}
 use borrow.Author.Tests.{ltb-true, ltb-false, lt-ltb, le-ltb, eqb-true, eqb-false}
 use Rattle.instructions.specs.Told.{Told, given}
-use Rattle.instructions.proofs.Telling.{apart}
+use Rattle.instructions.proofs.Telling.{apart, answerOf}
 use Rattle.controller.specs.Run.{BusCycle}
 use Rattle.streams.specs.Picture.{shown, Same}
 use Rattle.streams.specs.Stretch.{Place}
@@ -37,37 +37,25 @@ use Rattle.planner.proofs.Scanning.{from-at, none-at, from-none, first-
 
 -- ---- what is told of an answer tells all answers apart
 
-countBy : Told ℕ → Count
-countBy t = by (t .number) (t .value)
-  where
-    by : ℕ → Option ℕ → Count
-    by n (some k) = count.Bytes k
-    by n none = count.Refused n
-
-count-back : (a : Count) → countBy (toldCount a) ≡ a
-unfolding countBy
+count-back : (a : Count) → answerOf count.Bytes count.Refused (toldCount a) ≡ a
 count-back (count.Bytes n) = refl
 count-back (count.Refused n) = refl
 
 count-told : (a b : Count) → toldCount a ≡ toldCount b → a ≡ b
-count-told = apart toldCount countBy count-back
+count-told = apart toldCount (answerOf count.Bytes count.Refused) count-back
 
-foundBy : Told (Option Place) → Found
-foundBy t = by (t .number) (t .value)
-  where
-    by : ℕ → Option (Option Place) → Found
-    by n (some (some x)) = found.At (x .page) (x .column)
-    by n (some none) = found.Nothing
-    by n none = found.Refused n
+foundAt : Option Place → Found
+foundAt (some x) = found.At (x .page) (x .column)
+foundAt none = found.Nothing
 
-found-back : (a : Found) → foundBy (toldFound a) ≡ a
-unfolding foundBy
+found-back : (a : Found) → answerOf foundAt found.Refused (toldFound a) ≡ a
+unfolding foundAt
 found-back (found.At p c) = refl
 found-back found.Nothing = refl
 found-back (found.Refused n) = refl
 
 found-told : (a b : Found) → toldFound a ≡ toldFound b → a ≡ b
-found-told = apart toldFound foundBy found-back
+found-told = apart toldFound (answerOf foundAt found.Refused) found-back
 
 -- ---- two answers that a promise admits are equal
 

@@ -1,0 +1,755 @@
+/* The panel model of model.h, written from document 01 alone.
+   Sentences in quotes are document 01's own; "Decision" marks a point settled by combining them.
+   Words in the form @name are markers for faults.md and mean nothing else.
+
+   Nothing here checks for null pointers, and lent buffers are taken not to overlap one another
+   (recorded and wanted may be the same buffer, as both are only read). */
+#include "model.h"
+
+#ifndef R
+#define R
+#endif
+
+/* "A picture is 1,188 bytes: 9 pages of 132 columns, byte 132·page + column." */
+#define PAGES 9u
+#define COLUMNS 132u
+#define PICTURE 1188u
+#define ICON_PAGE 8u
+
+/* The words of the register "awaited". */
+#define AWAITS_NOTHING 0u
+#define AWAITS_CONTRAST 1u
+#define AWAITS_INDICATOR 2u
+
+/* Instruction numbers of model.h. */
+#define I_COLUMN_LOW 0u
+#define I_COLUMN_HIGH 1u
+#define I_RESISTOR 2u
+#define I_POWER 3u
+#define I_START_LINE 4u
+#define I_CONTRAST_NEXT 5u
+#define I_CONTRAST_VALUE 6u
+#define I_ADC 7u
+#define I_BIAS 8u
+#define I_ENTIRE 9u
+#define I_REVERSE 10u
+#define I_INDICATOR_OFF 11u
+#define I_INDICATOR_ON 12u
+#define I_INDICATOR_VALUE 13u
+#define I_DISPLAY 14u
+#define I_PAGE 15u
+#define I_SHL 16u
+#define I_MODIFY_ON 17u
+#define I_MODIFY_OFF 18u
+#define I_RESET 19u
+#define I_NOTHING 20u
+
+/* ---------------------------------------------------------------- memory and registers */
+
+/* "byte 132·page + column" */
+static size_t cell(size_t page, size_t column)
+{
+    return COLUMNS * page + column;
+}
+
+/* "On page 8 only bit 0 exists: other bits are read as 0 whatever the buffer holds, and a write there stores the byte
+   mod 2." The part of a byte that exists on the page. */
+static uint8_t existing(size_t page, uint8_t byte)
+{
+    if (page == ICON_PAGE)
+        return (uint8_t)(byte % 2u); /* @existing */
+    return byte;
+}
+
+/* "Two pictures are the same when pages 0 to 7 agree byte for byte and page 8 agrees in bit 0." */
+static int differs(const uint8_t *recorded, const uint8_t *wanted, size_t page, size_t column)
+{
+    return existing(page, recorded[cell(page, column)]) != existing(page, wanted[cell(page, column)]);
+}
+
+/* "Registers: page 0..15; column 0..255; start line 0..63; contrast 0..63; resistor 0..7; power 0..7 (VC, VR, VF);
+   bias, ADC, SHL, reverse, entire display, display on and indicator mode, each 0 or 1; indicator value 0..3; bus holder,
+   a byte; reset pin."
+   "The state holds either no saved column or exactly one (modify-read). It awaits either nothing, a contrast byte or an
+   indicator byte."
+   Decision: column and holder are bytes, so nothing is outside their range. "either no saved column or exactly one" is
+   given here by two fields; modify_read 0 with a saved column other than 0 is no such state and so out of range. */
+static int in_range(const struct model_registers *r)
+{
+    if (r->page > 15u) return 0;
+    if (r->start_line > 63u) return 0;
+    if (r->contrast > 63u) return 0; /* @range_contrast */
+    if (r->resistor > 7u) return 0;
+    if (r->power > 7u) return 0;
+    if (r->bias > 1u) return 0;
+    if (r->adc > 1u) return 0;
+    if (r->shl > 1u) return 0;
+    if (r->reverse > 1u) return 0;
+    if (r->entire > 1u) return 0;
+    if (r->on > 1u) return 0;
+    if (r->indicator > 1u) return 0;
+    if (r->indicator_value > 3u) return 0;
+    if (r->pin_low > 1u) return 0;
+    if (r->modify_read > 1u) return 0;
+    if (r->modify_read == 0u && r->saved_column != 0u) return 0; /* @range_saved */
+    if (r->awaited > 2u) return 0;
+    return 1;
+}
+
+/* "Pin low: every register takes its start value, the awaited byte and the saved column are forgotten, memory and holder
+   are kept (house). Start values are 0 and off, except contrast 32 (house)."
+   Decision: the pin itself is a register, and the cycle leaves it low. */
+static void pin_goes_low(struct model_registers *r)
+{
+    r->page = 0;
+    r->column = 0;
+    r->start_line = 0;
+    r->contrast = 32; /* @start_contrast */
+    r->resistor = 0;
+    r->power = 0;
+    r->bias = 0;
+    r->adc = 0;
+    r->shl = 0;
+    r->reverse = 0;
+    r->entire = 0;
+    r->on = 0;
+    r->indicator = 0;
+    r->indicator_value = 0;
+    r->modify_read = 0;
+    r->saved_column = 0;
+    r->awaited = AWAITS_NOTHING;
+    r->pin_low = 1;
+}
+
+/* "Pin high only raises the pin." */
+static void pin_goes_high(struct model_registers *r)
+{
+    r->pin_low = 0;
+}
+
+/* "The power-up state is pin low then high, holder 0, memory as lent." */
+void model_power_up(struct model_registers *r)
+{
+    pin_goes_low(r);
+    pin_goes_high(r);
+    r->holder = 0;
+}
+
+/* ---------------------------------------------------------------- instruction bytes */
+
+/* "Reader and writer take one byte at a time: 81 and AD are instructions of their own, and so is each second byte, read
+   as one when it is awaited."
+   Decision: awaited is a register, so a word above 2 is refusal 2, before 4 ("The order is 1, 2, 6, 3, 4, 5"). */
+uint8_t model_read_instruction(uint8_t awaited, uint8_t byte, uint8_t *number, uint8_t *value)
+{
+    uint8_t n, v;
+
+    /* 2: "a register is outside its range" */
+    if (awaited > 2u)
+        return 2;
+
+    /* "An awaited second byte is taken whatever its value." */
+    if (awaited == AWAITS_CONTRAST) {
+        /* "81 | next instruction byte mod 64 is contrast" */
+        n = I_CONTRAST_VALUE;
+        v = (uint8_t)(byte % 64u); /* @read_contrast */
+    } else if (awaited == AWAITS_INDICATOR) {
+        /* "AD | indicator on; next instruction byte mod 4 is its value" */
+        n = I_INDICATOR_VALUE;
+        v = (uint8_t)(byte % 4u);
+    } else if (byte <= 0x0Fu) {
+        /* "00-0F / 10-1F | low / high four bits of column" */
+        n = I_COLUMN_LOW;
+        v = byte;
+    } else if (byte <= 0x1Fu) {
+        n = I_COLUMN_HIGH;
+        v = (uint8_t)(byte - 0x10u);
+    } else if (byte <= 0x27u) {
+        /* "20-27, 28-2F | resistor, power" */
+        n = I_RESISTOR;
+        v = (uint8_t)(byte - 0x20u);
+    } else if (byte <= 0x2Fu) {
+        n = I_POWER;
+        v = (uint8_t)(byte - 0x28u);
+    } else if (byte >= 0x40u && byte <= 0x7Fu) {
+        /* "40-7F | start line" */
+        n = I_START_LINE;
+        v = (uint8_t)(byte - 0x40u);
+    } else if (byte == 0x81u) {
+        /* "81 | next instruction byte mod 64 is contrast" */
+        n = I_CONTRAST_NEXT;
+        v = 0;
+    } else if (byte >= 0xA0u && byte <= 0xA1u) {
+        /* "A0-A1, A2-A3, A4-A5, A6-A7 | ADC, bias, entire display, reverse" */
+        n = I_ADC;
+        v = (uint8_t)(byte - 0xA0u);
+    } else if (byte >= 0xA2u && byte <= 0xA3u) {
+        n = I_BIAS;
+        v = (uint8_t)(byte - 0xA2u);
+    } else if (byte >= 0xA4u && byte <= 0xA5u) {
+        n = I_ENTIRE;
+        v = (uint8_t)(byte - 0xA4u);
+    } else if (byte >= 0xA6u && byte <= 0xA7u) {
+        n = I_REVERSE;
+        v = (uint8_t)(byte - 0xA6u);
+    } else if (byte == 0xACu) {
+        /* "AC | indicator off" */
+        n = I_INDICATOR_OFF;
+        v = 0;
+    } else if (byte == 0xADu) {
+        /* "AD | indicator on; next instruction byte mod 4 is its value" */
+        n = I_INDICATOR_ON;
+        v = 0;
+    } else if (byte >= 0xAEu && byte <= 0xAFu) {
+        /* "AE-AF | display off, on" */
+        n = I_DISPLAY;
+        v = (uint8_t)(byte - 0xAEu);
+    } else if (byte >= 0xB0u && byte <= 0xBFu) {
+        /* "B0-BF | page" */
+        n = I_PAGE;
+        v = (uint8_t)(byte - 0xB0u);
+    } else if (byte >= 0xC0u && byte <= 0xCFu) {
+        /* "C0-CF | SHL is bit 3; bits 0-2 free" */
+        n = I_SHL;
+        v = (uint8_t)(byte / 8u % 2u); /* @read_shl */
+    } else if (byte == 0xE0u) {
+        /* "E0 / EE | modify-read on, saving the column / off, restoring it" */
+        n = I_MODIFY_ON;
+        v = 0;
+    } else if (byte == 0xEEu) {
+        n = I_MODIFY_OFF;
+        v = 0;
+    } else if (byte == 0xE2u) {
+        /* "E2 | reset: start line, column, page and SHL to 0, nothing else" */
+        n = I_RESET;
+        v = 0;
+    } else if (byte == 0xE3u) {
+        /* "E3 | nothing" */
+        n = I_NOTHING;
+        v = 0;
+    } else {
+        /* "These are 161 bytes; the other 95 are unassigned."
+           4: "instruction byte unassigned and nothing awaited" */
+        return 4;
+    }
+
+    *number = n;
+    *value = v;
+    return 0;
+}
+
+/* "The writer puts free bits, of second bytes too, to 0."
+   6: "a value to write is outside its field"
+   Decision (model.h): another number than 0 to 20 is 6 too, and where there is no field the only value is 0. */
+uint8_t model_write_instruction(uint8_t number, uint8_t value, uint8_t *byte)
+{
+    uint8_t first; /* the byte for value 0 */
+    uint8_t top;   /* the largest value of the field */
+    uint8_t step;  /* what one more in the value adds to the byte */
+
+    step = 1;
+    switch (number) {
+    /* "00-0F / 10-1F | low / high four bits of column" */
+    case I_COLUMN_LOW: first = 0x00; top = 15; break;
+    case I_COLUMN_HIGH: first = 0x10; top = 15; break;
+    /* "20-27, 28-2F | resistor, power" */
+    case I_RESISTOR: first = 0x20; top = 7; break;
+    case I_POWER: first = 0x28; top = 7; break; /* @write_power */
+    /* "40-7F | start line" */
+    case I_START_LINE: first = 0x40; top = 63; break;
+    /* "81 | next instruction byte mod 64 is contrast" */
+    case I_CONTRAST_NEXT: first = 0x81; top = 0; break;
+    case I_CONTRAST_VALUE: first = 0x00; top = 63; break;
+    /* "A0-A1, A2-A3, A4-A5, A6-A7 | ADC, bias, entire display, reverse" */
+    case I_ADC: first = 0xA0; top = 1; break;
+    case I_BIAS: first = 0xA2; top = 1; break;
+    case I_ENTIRE: first = 0xA4; top = 1; break;
+    case I_REVERSE: first = 0xA6; top = 1; break;
+    /* "AC | indicator off" */
+    case I_INDICATOR_OFF: first = 0xAC; top = 0; break;
+    /* "AD | indicator on; next instruction byte mod 4 is its value" */
+    case I_INDICATOR_ON: first = 0xAD; top = 0; break;
+    case I_INDICATOR_VALUE: first = 0x00; top = 3; break; /* @write_indicator */
+    /* "AE-AF | display off, on" */
+    case I_DISPLAY: first = 0xAE; top = 1; break;
+    /* "B0-BF | page" */
+    case I_PAGE: first = 0xB0; top = 15; break;
+    /* "C0-CF | SHL is bit 3; bits 0-2 free" */
+    case I_SHL: first = 0xC0; top = 1; step = 8; break; /* @write_shl */
+    /* "E0 / EE | modify-read on, saving the column / off, restoring it" */
+    case I_MODIFY_ON: first = 0xE0; top = 0; break;
+    case I_MODIFY_OFF: first = 0xEE; top = 0; break;
+    /* "E2 | reset: start line, column, page and SHL to 0, nothing else" */
+    case I_RESET: first = 0xE2; top = 0; break;
+    /* "E3 | nothing" */
+    case I_NOTHING: first = 0xE3; top = 0; break;
+    default: return 6;
+    }
+    if (value > top)
+        return 6;
+    *byte = (uint8_t)(first + step * value);
+    return 0;
+}
+
+/* What an accepted instruction does to the registers. */
+static void carry_out(struct model_registers *r, uint8_t number, uint8_t value)
+{
+    switch (number) {
+    /* "00-0F / 10-1F | low / high four bits of column" */
+    case I_COLUMN_LOW:
+        r->column = (uint8_t)(r->column / 16u * 16u + value);
+        break;
+    case I_COLUMN_HIGH:
+        r->column = (uint8_t)(r->column % 16u + 16u * value);
+        break;
+    /* "20-27, 28-2F | resistor, power" */
+    case I_RESISTOR:
+        r->resistor = value;
+        break;
+    case I_POWER:
+        r->power = value;
+        break;
+    /* "40-7F | start line" */
+    case I_START_LINE:
+        r->start_line = value;
+        break;
+    /* "81 | next instruction byte mod 64 is contrast" */
+    case I_CONTRAST_NEXT:
+        r->awaited = AWAITS_CONTRAST;
+        break;
+    case I_CONTRAST_VALUE:
+        r->contrast = value;
+        r->awaited = AWAITS_NOTHING;
+        break;
+    /* "A0-A1, A2-A3, A4-A5, A6-A7 | ADC, bias, entire display, reverse" */
+    case I_ADC:
+        r->adc = value;
+        break;
+    case I_BIAS:
+        r->bias = value;
+        break;
+    case I_ENTIRE:
+        r->entire = value;
+        break;
+    case I_REVERSE:
+        r->reverse = value;
+        break;
+    /* "AC | indicator off"; "AC awaits nothing (house)." Decision: the indicator value is another register and stays. */
+    case I_INDICATOR_OFF:
+        r->indicator = 0;
+        break;
+    /* "AD | indicator on; next instruction byte mod 4 is its value" */
+    case I_INDICATOR_ON:
+        r->indicator = 1;
+        r->awaited = AWAITS_INDICATOR;
+        break;
+    case I_INDICATOR_VALUE:
+        r->indicator_value = value;
+        r->awaited = AWAITS_NOTHING;
+        break;
+    /* "AE-AF | display off, on" */
+    case I_DISPLAY:
+        r->on = value;
+        break;
+    /* "B0-BF | page" */
+    case I_PAGE:
+        r->page = value;
+        break;
+    /* "C0-CF | SHL is bit 3; bits 0-2 free" */
+    case I_SHL:
+        r->shl = value;
+        break;
+    /* "E0 / EE | modify-read on, saving the column / off, restoring it"
+       "E0 while on and EE while off change nothing (house)." */
+    case I_MODIFY_ON:
+        if (r->modify_read < 1u) { /* off; @modify_on */
+            r->modify_read = 1;
+            r->saved_column = r->column;
+        }
+        break;
+    case I_MODIFY_OFF:
+        if (r->modify_read == 1u) {
+            r->modify_read = 0;
+            r->column = r->saved_column;
+            r->saved_column = 0;
+        }
+        break;
+    /* "E2 | reset: start line, column, page and SHL to 0, nothing else"
+       Decision: "nothing else", so modify-read and its saved column stay. */
+    case I_RESET:
+        r->start_line = 0;
+        r->column = 0;
+        r->page = 0;
+        r->shl = 0; /* @reset_shl */
+        break;
+    /* "E3 | nothing" */
+    default:
+        break;
+    }
+}
+
+/* ---------------------------------------------------------------- cycles */
+
+/* "stored if page ≤ 8 and column ≤ 131, otherwise nothing is stored"; a read takes "the cell (0 if there is none)" */
+static int cell_exists(const struct model_registers *r)
+{
+    return r->page <= 8u && r->column <= 131u; /* @cell_exists */
+}
+
+/* "Advancing adds 1 below 132 and changes nothing from 132 up (house reading of 002's locked counter). Page plays no
+   part." */
+static void advance(struct model_registers *r)
+{
+    if (r->column < 132u) /* @advance */
+        r->column = (uint8_t)(r->column + 1u);
+}
+
+/* "Status: bit 7 busy, always 0; bit 6 is 1 for ADC 0; bit 5 is 1 for display off; bit 4 is 1 while the pin is low; the
+   rest 0." */
+static uint8_t status(const struct model_registers *r)
+{
+    uint8_t s = 0;
+    if (r->adc == 0u)
+        s = (uint8_t)(s + 0x40u);
+    if (r->on == 0u)
+        s = (uint8_t)(s + 0x20u);
+    if (r->pin_low == 1u)
+        s = (uint8_t)(s + 0x10u); /* @status_pin */
+    return s;
+}
+
+/* "Kinds: 0 instruction, 1 data write, 2 status read, 3 data read, 4 reset pin low, 5 reset pin high."
+   "The order is 1, 2, 6, 3, 4, 5; [...] A single cycle given as kind and value can meet 9 too, after 2." So: 1, 2, 9, 3,
+   4.
+   "A refusal returns its number only; registers and buffers stay." */
+uint8_t model_cycle(struct model_registers *r, uint8_t *memory, size_t memory_len, uint8_t kind, uint8_t value, uint8_t *read_flag, uint8_t *byte)
+{
+    uint8_t refusal, number, field;
+
+    /* 1: "a picture, memory or frame buffer is not 1,188 bytes" (whatever the kind) */
+    if (memory_len != PICTURE)
+        return 1;
+    /* 2: "a register is outside its range" */
+    if (!in_range(r))
+        return 2;
+    /* 9: "kind above 5, or value not 0 in kinds 2 to 5" */
+    if (kind > 5u || (kind >= 2u && value != 0u)) /* @nine */
+        return 9;
+    /* 3: "pin low, and the cycle is kind 0, 1 or 3". Decision: this comes before the byte is looked at, so an awaited
+       second byte is not spent and 4 is not met. */
+    if (r->pin_low == 1u && (kind == 0u || kind == 1u || kind == 3u)) /* @three */
+        return 3;
+
+    switch (kind) {
+    case 0:
+        /* 4: "instruction byte unassigned and nothing awaited" */
+        refusal = model_read_instruction(r->awaited, value, &number, &field);
+        if (refusal != 0u)
+            return refusal;
+        carry_out(r, number, field);
+        break;
+    case 1:
+        /* "Data write: the byte enters the holder and is stored if page ≤ 8 and column ≤ 131, otherwise nothing is
+           stored. Then the column advances."
+           "a write there [page 8] stores the byte mod 2"
+           "Data cycles are carried out while a second byte is awaited, and it stays awaited (house)."
+           Decision: the holder takes the whole byte, on page 8 too; only what is stored is mod 2. The column advances in
+           modify-read too: only the data read has an "unless". */
+        r->holder = value;
+        if (cell_exists(r))
+            memory[cell(r->page, r->column)] = existing(r->page, value);
+        advance(r);
+        break;
+    case 2:
+        /* "Status reads change nothing." */
+        *read_flag = 1;
+        *byte = status(r);
+        break;
+    case 3:
+        /* "Data read: answers the holder, then loads it from the cell (0 if there is none). Then the column advances
+           unless modify-read is on. So the first read after an address set is a dummy (002)."
+           "On page 8 only bit 0 exists: other bits are read as 0 whatever the buffer holds" */
+        *read_flag = 1;
+        *byte = r->holder;
+        if (cell_exists(r))
+            r->holder = existing(r->page, memory[cell(r->page, r->column)]);
+        else
+            r->holder = 0;
+        if (r->modify_read == 0u) /* @read_advance */
+            advance(r);
+        break;
+    case 4:
+        pin_goes_low(r);
+        break;
+    default: /* 5 */
+        pin_goes_high(r);
+        break;
+    }
+    return 0;
+}
+
+/* "Power state: display off with entire display on is sleep if the indicator is off and standby if on (000); all else is
+   normal."
+   Decision: it is asked of a whole register struct, so any register outside its range is 2. */
+uint8_t model_power_state(const struct model_registers *r, uint8_t *state)
+{
+    if (!in_range(r))
+        return 2;
+    if (r->on == 0u && r->entire == 1u)
+        *state = r->indicator == 0u ? 1 : 2; /* @power_state */
+    else
+        *state = 0;
+    return 0;
+}
+
+/* ---------------------------------------------------------------- the lit frame */
+
+/* "A dot is dark if the display is off; else lit if entire display is on; else its bit, inverted if reverse is on, icons
+   too (house)." */
+static unsigned dot(const struct model_registers *r, unsigned bit)
+{
+    if (r->on == 0u)
+        return 0;
+    if (r->entire == 1u)
+        return 1;
+    if (r->reverse == 1u)
+        return 1u - bit;
+    return bit;
+}
+
+/* "A frame has a picture's layout, with segments for columns and rows for lines; rows 0..63 are the commons and strip 8
+   bit 0 the icon row." */
+uint8_t model_frame(const struct model_registers *r, const uint8_t *memory, size_t memory_len, uint8_t *frame, size_t frame_len)
+{
+    unsigned strip, segment, column, b, row, line, bit, byte;
+
+    /* 1: "a picture, memory or frame buffer is not 1,188 bytes" */
+    if (memory_len != PICTURE || frame_len != PICTURE)
+        return 1;
+    /* 2: "a register is outside its range" */
+    if (!in_range(r))
+        return 2;
+
+    for (segment = 0; segment < COLUMNS; segment++) {
+        /* "Segment s shows column s if ADC is 0, 131 − s if 1." */
+        if (r->adc == 0u) /* @frame_adc */
+            column = segment;
+        else
+            column = 131u - segment;
+
+        for (strip = 0; strip < 8u; strip++) {
+            byte = 0;
+            for (b = 0; b < 8u; b++) {
+                row = 8u * strip + b;
+                /* "Row k shows line (start + k) mod 64 if SHL is 0, (start + 63 − k) mod 64 if 1." */
+                if (r->shl == 0u)
+                    line = (r->start_line + row) % 64u;
+                else
+                    line = (r->start_line + 63u - row) % 64u; /* @frame_shl */
+                /* "Bit b of a byte on page p (0 to 7) is line 8p + b." */
+                bit = (unsigned)memory[cell(line / 8u, column)] >> (line % 8u) & 1u;
+                byte |= dot(r, bit) << b;
+            }
+            frame[cell(strip, segment)] = (uint8_t)byte;
+        }
+
+        /* "The icon row never scrolls." "Strip 8's bits 1 to 7 are 0." */
+        bit = memory[cell(ICON_PAGE, column)] & 1u; /* @frame_icon */
+        frame[cell(ICON_PAGE, segment)] = (uint8_t)dot(r, bit);
+    }
+    return 0;
+}
+
+/* ---------------------------------------------------------------- V0 */
+
+/* "1 + Rb/Ra in hundredths by resistor, from 002: 190, 219, 255, 302, 361, 435, 529, 648." */
+static const uint16_t ratios[8] = {190, 219, 255, 302, 361, 435, 529, 648}; /* @ratios */
+
+/* "V0 in millivolts is ratio·(237 + contrast)/15, from VREF 2.0 V, given as an exact numerator over 15; a resistor or
+   contrast outside its range is refused with 2." */
+uint8_t model_v0(uint8_t resistor, uint8_t contrast, uint32_t *numerator)
+{
+    if (resistor > 7u || contrast > 63u) /* @v0_range */
+        return 2;
+    *numerator = (uint32_t)ratios[resistor] * (237u + contrast); /* @v0_offset */
+    return 0;
+}
+
+/* ---------------------------------------------------------------- update and redraw */
+
+/* "The scan for the first differing byte stops at the first one found, page by page. It answers that page and column, or
+   that there is none; on page 8 only bit 0 counts." */
+uint8_t model_first_difference(const uint8_t *R recorded, size_t recorded_len, const uint8_t *R wanted, size_t wanted_len, uint8_t *R found, size_t *R page, size_t *R column)
+{
+    size_t p, c;
+
+    /* 1: "a picture, memory or frame buffer is not 1,188 bytes" */
+    if (recorded_len != PICTURE || wanted_len != PICTURE)
+        return 1;
+
+    for (p = 0; p < PAGES; p++) { /* @first_pages */
+        for (c = 0; c < COLUMNS; c++) { /* @first_columns */
+            if (differs(recorded, wanted, p, c))
+                goto difference;
+        }
+    }
+    *found = 0;
+    return 0;
+
+difference:
+    *found = 1;
+    *page = p;
+    *column = c;
+    return 0;
+}
+
+/* "Its length is the sum, over pages that differ, of 3 + differing columns + min(gap, 2) for each gap of equal columns
+   between two differing ones." */
+static size_t formula(const uint8_t *recorded, const uint8_t *wanted)
+{
+    size_t sum = 0;
+    size_t page, column, gap;
+    int page_differs;
+
+    for (page = 0; page < PAGES; page++) {
+        page_differs = 0;
+        gap = 0; /* equal columns since the last differing one */
+        for (column = 0; column < COLUMNS; column++) {
+            if (!differs(recorded, wanted, page, column)) {
+                gap++;
+                continue;
+            }
+            if (!page_differs)
+                sum += 3; /* the equal columns before the first differing one are no gap between two */
+            else
+                sum += gap < 2u ? gap : 2u; /* @formula_gap */
+            sum++;
+            page_differs = 1;
+            gap = 0;
+        }
+    }
+    return sum;
+}
+
+uint8_t model_update_length(const uint8_t *R recorded, size_t recorded_len, const uint8_t *R wanted, size_t wanted_len, size_t *R count)
+{
+    /* 1: "a picture, memory or frame buffer is not 1,188 bytes" */
+    if (recorded_len != PICTURE || wanted_len != PICTURE)
+        return 1;
+    *count = formula(recorded, wanted);
+    return 0;
+}
+
+/* "Ours takes pages in rising order, columns rising, begins and ends each page's work on differing columns, writes
+   through a gap of 1 or 2 equal columns and starts a new stretch at 3 or more."
+   "A stream's bytes go to one lent output and their kinds (0 or 1, as under Cycles) to a second."
+   Decision: equal pictures need no stretch, so the stream is empty and outputs of 0 bytes are long enough. */
+uint8_t model_update(const uint8_t *R recorded, size_t recorded_len, const uint8_t *R wanted, size_t wanted_len,
+                     uint8_t *R out, size_t out_len, uint8_t *R kinds, size_t kinds_len, size_t *R count)
+{
+    size_t need, sent, page, column, last, c;
+    int page_byte_sent;
+
+    /* 1: "a picture, memory or frame buffer is not 1,188 bytes" */
+    if (recorded_len != PICTURE || wanted_len != PICTURE)
+        return 1;
+    /* 5: "either output shorter than the stream needs"
+       "A refusal returns its number only; registers and buffers stay." So the need is known before the first byte. */
+    need = formula(recorded, wanted);
+    if (out_len < need || kinds_len < need) /* @update_five */
+        return 5;
+
+    /* "A longer output keeps its bytes past the stream." Only out[0..sent) and kinds[0..sent) are written. */
+    sent = 0;
+    for (page = 0; page < PAGES; page++) {
+        page_byte_sent = 0;
+        column = 0;
+        while (column < COLUMNS) {
+            if (!differs(recorded, wanted, page, column)) {
+                column++;
+                continue;
+            }
+
+            /* A stretch begins here. Its last column is the last differing one that is reached over gaps of at most 2
+               equal columns, which is in steps of at most 3. */
+            last = column;
+            for (c = column + 1u; c < COLUMNS && c - last <= 3u; c++) { /* @update_gap */
+                if (differs(recorded, wanted, page, c))
+                    last = c;
+            }
+
+            /* "A stretch is a page byte (B0 + page), two column bytes (10 + high part, then 00 + low part), then at least
+               one data byte, ending at or before column 131. The page byte is left out exactly when the stretch before
+               it in the same stream was on that page." */
+            if (!page_byte_sent) {
+                out[sent] = (uint8_t)(0xB0u + page);
+                kinds[sent] = 0;
+                sent++;
+                page_byte_sent = 1;
+            }
+            out[sent] = (uint8_t)(0x10u + column / 16u); /* @update_high */
+            kinds[sent] = 0;
+            sent++;
+            out[sent] = (uint8_t)(0x00u + column % 16u);
+            kinds[sent] = 0;
+            sent++;
+
+            /* "Its data are the wanted bytes (mod 2 on page 8)." */
+            for (c = column; c <= last; c++) {
+                out[sent] = existing(page, wanted[cell(page, c)]);
+                kinds[sent] = 1; /* @update_kind */
+                sent++;
+            }
+            column = last + 1u;
+        }
+    }
+    *count = sent;
+    return 0;
+}
+
+/* "The redraw is E3, AC, 81, contrast, then all nine pages as one stretch each, data as in the update: 4 + 9·135 = 1,219
+   bytes."
+   Refusals in the order 1, 6, 5. */
+uint8_t model_redraw(const uint8_t *R wanted, size_t wanted_len, uint8_t contrast, uint8_t *R out, size_t out_len, uint8_t *R kinds, size_t kinds_len, size_t *R count)
+{
+    size_t sent, page, column;
+
+    /* 1: "a picture, memory or frame buffer is not 1,188 bytes" */
+    if (wanted_len != PICTURE)
+        return 1;
+    /* "A given contrast above 63 is refused with 6." */
+    if (contrast > 63u) /* @redraw_six */
+        return 6;
+    /* 5: "either output shorter than the stream needs" */
+    if (out_len < 1219u || kinds_len < 1219u) /* @redraw_five */
+        return 5;
+
+    out[0] = 0xE3;
+    out[1] = 0xAC; /* @redraw_ac */
+    out[2] = 0x81;
+    out[3] = contrast;
+    for (sent = 0; sent < 4u; sent++)
+        kinds[sent] = 0;
+
+    for (page = 0; page < PAGES; page++) {
+        /* "A stretch is a page byte (B0 + page), two column bytes (10 + high part, then 00 + low part), then at least one
+           data byte". Every page byte is there, as the stretch before is on another page. */
+        out[sent] = (uint8_t)(0xB0u + page);
+        kinds[sent] = 0;
+        sent++;
+        out[sent] = 0x10;
+        kinds[sent] = 0;
+        sent++;
+        out[sent] = 0x00;
+        kinds[sent] = 0;
+        sent++;
+        /* "data as in the update": "the wanted bytes (mod 2 on page 8)" */
+        for (column = 0; column < COLUMNS; column++) {
+            out[sent] = existing(page, wanted[cell(page, column)]); /* @redraw_data */
+            kinds[sent] = 1;
+            sent++;
+        }
+    }
+    *count = sent;
+    return 0;
+}

@@ -1,0 +1,40 @@
+/* An independent model of the panel software, written from document 01 alone. Plain C, no library calls.
+   Every function answers 0, or the number of the refusal; values go through pointers that a refusal leaves alone. */
+#ifndef MODEL_H
+#define MODEL_H
+#include <stddef.h>
+#include <stdint.h>
+
+struct model_registers {
+    uint8_t page, column, start_line, contrast, resistor, power;
+    uint8_t bias, adc, shl, reverse, entire, on, indicator; /* 0 or 1; anything else is out of range */
+    uint8_t indicator_value, holder;
+    uint8_t pin_low;      /* 0 or 1 */
+    uint8_t modify_read;  /* 0 off, 1 on */
+    uint8_t saved_column; /* meaningful while modify_read is 1, else 0 */
+    uint8_t awaited;      /* 0 nothing, 1 contrast byte, 2 indicator byte */
+};
+
+/* Instructions by number, in the order of document 01's table, second bytes after their first:
+   0 column low, 1 column high, 2 resistor, 3 power, 4 start line, 5 contrast next (81), 6 contrast value, 7 ADC, 8 bias,
+   9 entire display, 10 reverse, 11 indicator off (AC), 12 indicator on (AD), 13 indicator value, 14 display off/on, 15 page,
+   16 SHL, 17 modify-read on (E0), 18 modify-read off (EE), 19 reset (E2), 20 nothing (E3).
+   value: the field's value, 0 or 1 for a flag, 0 where there is none. */
+
+void model_power_up(struct model_registers *r);
+/* *read_flag is 1 and *byte the byte where the cycle is an accepted data or status read, else both are left alone. */
+uint8_t model_cycle(struct model_registers *r, uint8_t *memory, size_t memory_len, uint8_t kind, uint8_t value, uint8_t *read_flag, uint8_t *byte);
+uint8_t model_read_instruction(uint8_t awaited, uint8_t byte, uint8_t *number, uint8_t *value);
+/* another number than 0 to 20, or a value outside the field (also a value other than 0 where there is no field), is 6 */
+uint8_t model_write_instruction(uint8_t number, uint8_t value, uint8_t *byte);
+uint8_t model_frame(const struct model_registers *r, const uint8_t *memory, size_t memory_len, uint8_t *frame, size_t frame_len);
+/* *state: 0 normal, 1 sleep, 2 standby */
+uint8_t model_power_state(const struct model_registers *r, uint8_t *state);
+uint8_t model_v0(uint8_t resistor, uint8_t contrast, uint32_t *numerator);
+/* *found is 1 and *page, *column where there is a difference, else *found is 0 and page and column are left alone */
+uint8_t model_first_difference(const uint8_t *recorded, size_t recorded_len, const uint8_t *wanted, size_t wanted_len, uint8_t *found, size_t *page, size_t *column);
+uint8_t model_update_length(const uint8_t *recorded, size_t recorded_len, const uint8_t *wanted, size_t wanted_len, size_t *count);
+uint8_t model_update(const uint8_t *recorded, size_t recorded_len, const uint8_t *wanted, size_t wanted_len,
+                     uint8_t *out, size_t out_len, uint8_t *kinds, size_t kinds_len, size_t *count);
+uint8_t model_redraw(const uint8_t *wanted, size_t wanted_len, uint8_t contrast, uint8_t *out, size_t out_len, uint8_t *kinds, size_t kinds_len, size_t *count);
+#endif

@@ -1,0 +1,5 @@
+pub mod Answering
+pub mod Sizes
+pub mod Packing
+pub mod Numbering
+pub mod Promised

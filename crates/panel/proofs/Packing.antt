@@ -1,0 +1,189 @@
+-- Packing and unpacking are inverse: every register is found again in the bytes, and bytes that stand for registers are found again
+-- in the registers.
+-- Assumes nothing.
+use Prim.Native.Nat.{ℕ, zero, suc, _+_, _≤_, _<_}
+use mathlib.Core.Path.{_≡_, refl, sym, subst}
+use mathlib.Core.Bool.{Bool, true, false, _&&_, _||_}
+use mathlib.Core.List.{List}
+use native.Mathlib.Omega.{arith}
+use lib.ListN.{length, getD}
+use lib.Dec.{ltb, eqb}
+use borrow.Author.Tests.{ltb-false}
+use Rattle.instructions.specs.declared.instruction.Awaited.{Awaited}
+use Rattle.instructions.specs.declared.instruction.Awaited.the-variants as awaited
+use Rattle.controller.specs.declared.registers.ModifyRead.{ModifyRead}
+use Rattle.controller.specs.declared.registers.ModifyRead.the-variants.{Off, On}
+use Rattle.controller.specs.declared.registers.Registers.{Registers}
+use Rattle.glass.specs.Frame.{listed}
+use Rattle.glass.proofs.Listed.{whole}
+use Rattle.streams.proofs.Cases.{less}
+use Rattle.planner.proofs.Showing.{or-left, or-right}
+use Rattle.panel.specs.State.{flagByte, modifyByte, savedByte, modifyOf, awaitedByte, awaitedOf, packed, unpacked, above, oddFlag, spareUsed, unfit}
+
+-- ---- the registers again
+
+flag-again : (x : Bool) → eqb (flagByte x) 1 ≡ x
+flag-again true = refl
+flag-again false = refl
+
+modify-again : (m : ModifyRead) → modifyOf (modifyByte m) (savedByte m) ≡ m
+modify-again Off = refl
+modify-again (On c) = refl
+
+awaited-again : (a : Awaited) → awaitedOf (awaitedByte a) ≡ a
+awaited-again awaited.Nothing = refl
+awaited-again awaited.Contrast = refl
+awaited-again awaited.Indicator = refl
+
+pub registers-again : (r : Registers) → unpacked (packed r) ≡ r
+unfolding unpacked packed
+registers-again r =
+    rw (
+      flag-again (r .bias),
+      flag-again (r .adc),
+      flag-again (r .shl),
+      flag-again (r .reverse),
+      flag-again (r .entire),
+      flag-again (r .on),
+      flag-again (r .indicator),
+      flag-again (r .«pin_low»),
+      modify-again (r .«modify_read»),
+      awaited-again (r .awaited),
+    )
+
+-- ---- the bytes again
+
+pub flag-kept : (x : ℕ) → x ≤ 1 → flagByte (eqb x 1) ≡ x
+flag-kept zero h = refl
+flag-kept (suc zero) h = refl
+flag-kept (suc (suc x)) h = absurd (omega arith)
+
+awaited-kept : (x : ℕ) → x ≤ 2 → awaitedByte (awaitedOf x) ≡ x
+awaited-kept zero h = refl
+awaited-kept (suc zero) h = refl
+awaited-kept (suc (suc zero)) h = refl
+awaited-kept (suc (suc (suc x))) h = absurd (omega arith)
+
+modify-kept : (x s : ℕ) → x ≤ 1 → modifyByte (modifyOf x s) ≡ x
+modify-kept zero s h = refl
+modify-kept (suc zero) s h = refl
+modify-kept (suc (suc x)) s h = absurd (omega arith)
+
+saved-kept : (x s : ℕ) → x ≤ 1 → (eqb x 0 && ltb 0 s) ≡ false → savedByte (modifyOf x s) ≡ s
+saved-kept zero s h e = let l = ltb-false 0 s e in omega arith
+saved-kept (suc zero) s h e = refl
+saved-kept (suc (suc x)) s h e = absurd (omega arith)
+
+-- none of the bytes is above what it may be
+none-above : (most : ℕ) (b : List ℕ) (i n : ℕ) → above most b i n ≡ false → (k : ℕ) → k < n → getD b (i + k) 0 ≤ most
+none-above most b i zero e k h = absurd (omega arith)
+none-above most b i (suc n) e k h = less k n
+    (λ l. none-above most b i n (or-left (above most b i n) (ltb most (getD b (i + n) 0)) e) k l)
+    (λ l. subst (λ (x : ℕ). getD b (i + x) 0 ≤ most) (let q : n ≡ k = omega arith in q)
+    (ltb-false most (getD b (i + n) 0) (or-right (above most b i n) (ltb most (getD b (i + n) 0)) e)))
+
+none-left : (x : ℕ) → x ≤ 0 → x ≡ 0
+none-left x h = omega arith
+
+-- the tests that an unfit state meets, one by one
+record Fit (b : List ℕ) : Type 0 where
+  flags : (k : ℕ) → k < 7 → getD b (6 + k) 0 ≤ 1
+  pin : getD b 15 0 ≤ 1
+  modify : getD b 16 0 ≤ 1
+  saved : (eqb (getD b 16 0) 0 && ltb 0 (getD b 17 0)) ≡ false
+  second : getD b 18 0 ≤ 2
+  spare : (k : ℕ) → k < 13 → getD b (19 + k) 0 ≡ 0
+
+fit : (b : List ℕ) → unfit b ≡ false → Fit b
+unfolding unfit oddFlag spareUsed
+fit b e =
+    let t = eqb (getD b 16 0) 0 && ltb 0 (getD b 17 0) in
+    let u = ltb 2 (getD b 18 0) in
+    let p = ltb 1 (getD b 15 0) in
+    let m = ltb 1 (getD b 16 0) in
+    let f = above 1 b 6 7 in
+    let e1 = or-left (f || p || m || t || u) (above 0 b 19 13) e in
+    let e2 = or-left (f || p || m || t) u e1 in
+    let e3 = or-left (f || p || m) t e2 in
+    let e4 = or-left (f || p) m e3 in
+    record {
+      flags = none-above 1 b 6 7 (or-left f p e4);
+      pin = ltb-false 1 (getD b 15 0) (or-right f p e4);
+      modify = ltb-false 1 (getD b 16 0) (or-right (f || p) m e3);
+      saved = or-right (f || p || m) t e2;
+      second = ltb-false 2 (getD b 18 0) (or-right (f || p || m || t) u e1);
+      spare = λ k h. none-left (getD b (19 + k) 0) (none-above 0 b 19 13 (or-right (f || p || m || t || u) (above 0 b 19 13) e) k h);
+    }
+
+-- a list of 32 bytes, spelled out
+spelled : (b : List ℕ) → length b ≡ 32 → b ≡ listed (λ (k : ℕ). getD b k 0) 0 32
+spelled b h = whole (λ (k : ℕ). getD b k 0) b 32 h (λ k l. refl)
+
+pub bytes-again : (b : List ℕ) → length b ≡ 32 → unfit b ≡ false → packed (unpacked b) ≡ b
+unfolding packed unpacked
+bytes-again b h e =
+    let f = fit b e in
+    rw (
+      flag-kept (getD b 6 0) (f .flags 0 (omega arith)),
+      flag-kept (getD b 7 0) (f .flags 1 (omega arith)),
+      flag-kept (getD b 8 0) (f .flags 2 (omega arith)),
+      flag-kept (getD b 9 0) (f .flags 3 (omega arith)),
+      flag-kept (getD b 10 0) (f .flags 4 (omega arith)),
+      flag-kept (getD b 11 0) (f .flags 5 (omega arith)),
+      flag-kept (getD b 12 0) (f .flags 6 (omega arith)),
+      flag-kept (getD b 15 0) (f .pin),
+      modify-kept (getD b 16 0) (getD b 17 0) (f .modify),
+      saved-kept (getD b 16 0) (getD b 17 0) (f .modify) (f .saved),
+      awaited-kept (getD b 18 0) (f .second),
+    )
+    (rw (
+      f .spare 0 (omega arith),
+      f .spare 1 (omega arith),
+      f .spare 2 (omega arith),
+      f .spare 3 (omega arith),
+      f .spare 4 (omega arith),
+      f .spare 5 (omega arith),
+      f .spare 6 (omega arith),
+      f .spare 7 (omega arith),
+      f .spare 8 (omega arith),
+      f .spare 9 (omega arith),
+      f .spare 10 (omega arith),
+      f .spare 11 (omega arith),
+      f .spare 12 (omega arith),
+    ) at (sym (spelled b h)))
+
+-- ---- what is packed stands for registers
+
+flag-fits : (x : Bool) → ltb 1 (flagByte x) ≡ false
+flag-fits true = refl
+flag-fits false = refl
+
+modify-fits : (m : ModifyRead) → ltb 1 (modifyByte m) ≡ false
+modify-fits Off = refl
+modify-fits (On c) = refl
+
+saved-fits : (m : ModifyRead) → (eqb (modifyByte m) 0 && ltb 0 (savedByte m)) ≡ false
+saved-fits Off = refl
+saved-fits (On c) = refl
+
+awaited-fits : (a : Awaited) → ltb 2 (awaitedByte a) ≡ false
+awaited-fits awaited.Nothing = refl
+awaited-fits awaited.Contrast = refl
+awaited-fits awaited.Indicator = refl
+
+pub packed-fit : (r : Registers) → unfit (packed r) ≡ false
+unfolding packed unfit oddFlag spareUsed
+packed-fit r =
+    rw (
+      flag-fits (r .bias),
+      flag-fits (r .adc),
+      flag-fits (r .shl),
+      flag-fits (r .reverse),
+      flag-fits (r .entire),
+      flag-fits (r .on),
+      flag-fits (r .indicator),
+      flag-fits (r .«pin_low»),
+      modify-fits (r .«modify_read»),
+      saved-fits (r .«modify_read»),
+      awaited-fits (r .awaited),
+    )

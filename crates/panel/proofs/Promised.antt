@@ -1,0 +1,365 @@
+-- What the promises fix. Two results that a promise admits are equal, out-parameters and lent bytes included, since the promise of
+-- the crate below fixes its answer; each call answers exactly the number named here, and 0 exactly if nothing is refused.
+-- Assumes nothing.
+use Prim.Native.Nat.{ℕ, _≤_, _<_}
+use mathlib.Core.Path.{_≡_, _∙_, refl, ap, sym, subst}
+use mathlib.Core.Logic.{_≢_, _⊎_, inl, inr, ⊎-elim}
+use mathlib.Core.Bool.{Bool, true, false, cond, not, _&&_, _||_}
+use mathlib.Core.Option.{Option, none, some}
+use mathlib.Core.List.{List}
+use native.Mathlib.Omega.{arith}
+use lib.ListN.{length}
+use lib.Dec.{T, ltb, eqb}
+use borrow.Author.Tests.{ltb-false, le-ltb, eqb-true}
+use Rattle.instructions.specs.Refusal.{wrongSize, outOfRange, outsideField}
+use Rattle.instructions.specs.Told.{Told, given, refused}
+use Rattle.instructions.specs.Numbers.{numbers0713}
+use Rattle.instructions.specs.Read.{toldReading, assigned, nothingAwaited, IsRead}
+use Rattle.instructions.specs.Write.{toldWriting}
+use Rattle.instructions.specs.declared.instruction.Awaited.{Awaited}
+use Rattle.instructions.specs.declared.instruction.Awaited.the-variants as awaited
+use Rattle.instructions.specs.declared.instruction.Instruction.{Instruction}
+use Rattle.instructions.specs.declared.read.Reading.{Reading}
+use Rattle.instructions.specs.declared.read.Reading.the-variants as reading
+use Rattle.instructions.specs.declared.write.Writing.{Writing}
+use Rattle.instructions.proofs.Unique.{read-one, written-one, read-some, unread-4}
+use Rattle.instructions.proofs.Sensible.{sensible0713}
+use Rattle.instructions.proofs.Fits.{Fits}
+use Rattle.controller.specs.Registers.{outside}
+use Rattle.controller.specs.State.{afterBy}
+use Rattle.controller.specs.Cycle.{outcome, cycleNumber}
+use Rattle.controller.specs.declared.registers.Registers.{Registers}
+use Rattle.controller.proofs.Ranges.{ranged, ranges, stays-ranged}
+use Rattle.controller.proofs.Unique.{cycled-one, powered-one, number-exactly}
+use Rattle.glass.specs.Frame.{toldShown, refusal}
+use Rattle.glass.specs.Power.{toldPower}
+use Rattle.glass.specs.Voltage.{toldVoltage, numerator}
+use Rattle.glass.proofs.Promised.{power-one, voltage-one, shown-one}
+use Rattle.streams.specs.Length.{updateLength}
+use Rattle.streams.proofs.Cases.{split, less}
+use Rattle.planner.specs.Pictures.{misfit}
+use Rattle.planner.specs.First.{toldFound}
+use Rattle.planner.specs.Count.{toldCount}
+use Rattle.planner.specs.Sent.{updateRefusal, redrawRefusal, IsUpdate, IsRedraw}
+use Rattle.planner.specs.declared.count.Count.{Count}
+use Rattle.planner.specs.declared.count.Count.the-variants as count
+use Rattle.planner.proofs.Exactly.{Exactly, RightSize, ShortOutput, misfit-yes, misfit-no, then, both, same-number, past, nowhere, wrong-size, right-size}
+use Rattle.planner.proofs.Showing.{or-left, or-right}
+use Rattle.planner.proofs.Scanning.{first-given}
+use Rattle.planner.proofs.Promised.{first-one, first-1, length-one, update-one, update-1, update-5, update-only, redraw-one, redraw-1, redraw-6, redraw-5, redraw-only}
+use Rattle.panel.specs.Answers.{leftBy, Answers, If}
+use Rattle.panel.specs.State.{packed, unpacked, unfit, awaitedOf}
+use Rattle.panel.specs.Chip.{PowerUpOut, unfitNumber, CycleOut, FrameOut, PowerOut, VoltageOut}
+use Rattle.panel.specs.Bytes.{named, WrittenIf, ReadOut, WriteOut}
+use Rattle.panel.specs.Pictures.{FirstOut, LengthOut, UpdateOut, RedrawOut}
+use Rattle.panel.proofs.Packing.{registers-again, packed-fit}
+
+-- ---- what is told alike comes out alike
+
+answers-one : {A B : Type 0} {t u : Told A} {put : A → B} {before after after′ : B} {r r′ : ℕ}
+    → t ≡ u → Answers t put before after r → Answers u put before after′ r′ → (after ≡ after′) × (r ≡ r′)
+answers-one {put = put} {before = before} e f g =
+    (f .left ∙ ap (λ t. leftBy put before (t .value)) e ∙ sym (g .left), f .number ∙ ap (λ t. t .number) e ∙ sym (g .number))
+
+-- a promise that depends on a test, by the test
+if-split : {P Q X : Type 0} (t : Bool) → If t P Q → (t ≡ true → P → X) → (t ≡ false → Q → X) → X
+if-split true p f g = f refl p
+if-split false q f g = g refl q
+
+if-both : {P Q P′ Q′ X : Type 0} (t : Bool) → If t P Q → If t P′ Q′ → (P → P′ → X) → (Q → Q′ → X) → X
+if-both true p p′ f g = f p p′
+if-both false q q′ f g = g q q′
+
+-- ---- numbers
+
+-- a refusal where a test holds, else what is given
+test-number : {A : Type 0} (t : Bool) (n : ℕ) (x : A) → cond t (refused n) (given x) .number ≡ cond t n 0
+test-number true n x = refl
+test-number false n x = refl
+
+-- what is given where the number is 0, else a refusal with it
+number-number : {A : Type 0} (n : ℕ) (x : A) → cond (eqb n 0) (given x) (refused n) .number ≡ n
+number-number n x = split (eqb n 0) (λ t. rw t (sym (eqb-true n 0 t))) (λ t. rw t)
+
+-- one test gives a number, and nothing else does
+only : (t : Bool) (n : ℕ) → n ≢ 0 → Exactly (cond t n 0 ≡ 0) (t ≡ false)
+only t n h = let f = past t n 0 0 h in (λ e. f .0 e .0, λ e. f .1 (e, refl))
+
+unfit-some : (wrong : Bool) → unfitNumber wrong ≢ 0
+unfit-some wrong = nowhere wrong wrongSize outOfRange 0 (λ e. omega arith) (λ e. omega arith)
+
+-- ---- states that are not refused
+
+-- the bytes stand for registers, and these are in range
+abbrev pub Accepted : List ℕ → Type 0
+Accepted s = (unfit s ≡ false) × (outside numbers0713 (unpacked s) ≡ false)
+
+packed-accepted : (r : Registers) → outside numbers0713 r ≡ false → Accepted (packed r)
+packed-accepted r h = (packed-fit r, ap (outside numbers0713) (registers-again r) ∙ h)
+
+accepted-left : (s : List ℕ) (x : Option Registers) → Accepted s → outside numbers0713 (afterBy (unpacked s) x) ≡ false
+    → {s′ : List ℕ} → s′ ≡ leftBy packed s x → Accepted s′
+accepted-left s none a h e = subst Accepted (sym e) a
+accepted-left s (some r) a h e = subst Accepted (sym e) (packed-accepted r h)
+
+-- ---- power-up
+
+pub power-up-one : {s s′ : List ℕ} {r r′ : ℕ} → PowerUpOut s r → PowerUpOut s′ r′ → (s ≡ s′) × (r ≡ r′)
+power-up-one f g = (f .left ∙ ap packed (powered-one (f .promised) (g .promised)) ∙ sym (g .left), f .number ∙ sym (g .number))
+
+pub power-up-0 : {s : List ℕ} {r : ℕ} → PowerUpOut s r → r ≡ 0
+power-up-0 f = f .number
+
+pub power-up-accepted : {s : List ℕ} {r : ℕ} → PowerUpOut s r → Accepted s
+power-up-accepted f =
+    subst Accepted (sym (f .left)) (packed-accepted (f .registers) (ap (outside numbers0713) (f .promised .tells) ∙ ranged numbers0713 _ (omega arith)))
+
+-- ---- one cycle
+
+module _ (s m : List ℕ) (kind value read byte : ℕ) where
+  pub cycle-one : {s₁ s₂ m₁ m₂ : List ℕ} {read₁ read₂ byte₁ byte₂ r₁ r₂ : ℕ}
+      → CycleOut s m kind value read byte s₁ m₁ read₁ byte₁ r₁ → CycleOut s m kind value read byte s₂ m₂ read₂ byte₂ r₂
+      → (s₁ ≡ s₂) × (m₁ ≡ m₂) × (read₁ ≡ read₂) × (byte₁ ≡ byte₂) × (r₁ ≡ r₂)
+  cycle-one f g =
+      let p = if-both (unfit s) (f .promised) (g .promised) (λ p q. (p .0 ∙ sym (q .0), p .1 ∙ sym (q .1))) (λ p q. cycled-one p q) in
+      let e = p .0 in (
+        f .state-left ∙ ap (λ a. leftBy packed s (outcome a .registers)) e ∙ sym (g .state-left),
+        p .1,
+        f .read-left ∙ ap (λ a. leftBy (λ (b : ℕ). 1) read (outcome a .byte)) e ∙ sym (g .read-left),
+        f .byte-left ∙ ap (λ a. leftBy (λ (b : ℕ). b) byte (outcome a .byte)) e ∙ sym (g .byte-left),
+        f .number ∙ ap (λ a. outcome a .number) e ∙ sym (g .number),
+      )
+
+  module _ (h : value < 256) {s′ m′ : List ℕ} {read′ byte′ r : ℕ} (f : CycleOut s m kind value read byte s′ m′ read′ byte′ r) where
+    pub cycle-number : r ≡ cond (unfit s) (unfitNumber (misfit 132 m)) (cycleNumber numbers0713 (length m) (unpacked s) kind value)
+    cycle-number = f .number ∙ if-split (unfit s) (f .promised)
+        (λ t p. ap (λ a. outcome a .number) (p .0) ∙ rw t refl)
+        (λ t p. ap (λ o. o .number) (p .tells) ∙ number-exactly numbers0713 (unpacked s) value h m kind ∙ rw t refl)
+
+    pub cycle-0 : Exactly (r ≡ 0) ((unfit s ≡ false) × (cycleNumber numbers0713 (length m) (unpacked s) kind value ≡ 0))
+    cycle-0 = then (same-number cycle-number) (past (unfit s) _ _ 0 (unfit-some (misfit 132 m)))
+
+  -- a state that is accepted stays one: whatever the cycle, the state that it leaves is fit and in range again
+  pub cycle-again : {s′ m′ : List ℕ} {read′ byte′ r : ℕ} → CycleOut s m kind value read byte s′ m′ read′ byte′ r → Accepted s → Accepted s′
+  cycle-again f a = if-split (unfit s) (f .promised) (λ t p. absurd (subst T (sym t ∙ a .0) tt))
+      (λ t p. accepted-left s (outcome (f .answer) .registers) a
+      (subst (λ o. outside numbers0713 (afterBy (unpacked s) (o .registers)) ≡ false) (sym (p .tells))
+      (ranged numbers0713 _ (stays-ranged numbers0713 sensible0713 (unpacked s) m kind value (ranges numbers0713 (unpacked s) (a .1)))))
+      (f .state-left))
+
+-- ---- the glass
+
+module _ (s m frame : List ℕ) where
+  pub frame-one : {k l : List ℕ} {r r′ : ℕ} → FrameOut s m frame k r → FrameOut s m frame l r′ → (k ≡ l) × (r ≡ r′)
+  frame-one f g =
+      let p = if-both (unfit s) (f .promised) (g .promised) (λ p q. (p .0 ∙ sym (q .0), p .1 ∙ sym (q .1))) (λ p q. shown-one p q) in
+      (p .1, f .number ∙ ap (λ a. toldShown a .number) (p .0) ∙ sym (g .number))
+
+  module _ {l : List ℕ} {r : ℕ} (f : FrameOut s m frame l r) where
+    pub frame-number : r ≡ cond (unfit s) (unfitNumber (misfit 132 m || misfit 132 frame)) (refusal numbers0713 (unpacked s) (length m) (length frame))
+    frame-number = f .number ∙ if-split (unfit s) (f .promised)
+        (λ t p. ap (λ a. toldShown a .number) (p .0) ∙ rw t refl)
+        (λ t p. ap (λ o. o .number) (p .tells) ∙ number-number (refusal numbers0713 (unpacked s) (length m) (length frame)) tt ∙ rw t refl)
+
+    pub frame-0 : Exactly (r ≡ 0) ((unfit s ≡ false) × (refusal numbers0713 (unpacked s) (length m) (length frame) ≡ 0))
+    frame-0 = then (same-number frame-number) (past (unfit s) _ _ 0 (unfit-some (misfit 132 m || misfit 132 frame)))
+
+module _ (s : List ℕ) (answer : ℕ) where
+  pub power-state-one : {a b r r′ : ℕ} → PowerOut s answer a r → PowerOut s answer b r′ → (a ≡ b) × (r ≡ r′)
+  power-state-one f g =
+      answers-one (ap toldPower (if-both (unfit s) (f .promised) (g .promised) (λ p q. p ∙ sym q) (λ p q. power-one p q))) (f .answers) (g .answers)
+
+  module _ {a r : ℕ} (f : PowerOut s answer a r) where
+    pub power-state-number : r ≡ cond (unfit s) outOfRange (cond (outside numbers0713 (unpacked s)) outOfRange 0)
+    power-state-number = f .answers .number ∙ if-split (unfit s) (f .promised)
+        (λ t p. ap (λ a. toldPower a .number) p ∙ rw t refl)
+        (λ t p. ap (λ o. o .number) (p .tells) ∙ test-number (outside numbers0713 (unpacked s)) outOfRange _ ∙ rw t refl)
+
+    pub power-state-0 : Exactly (r ≡ 0) (Accepted s)
+    power-state-0 =
+        then (same-number power-state-number)
+        (then (past (unfit s) outOfRange _ 0 (λ e. omega arith)) (both (λ e. e, λ e. e) (only (outside numbers0713 (unpacked s)) outOfRange (λ e. omega arith))))
+
+module _ (resistor contrast before : ℕ) where
+  pub v0-one : {a b r r′ : ℕ} → VoltageOut resistor contrast before a r → VoltageOut resistor contrast before b r′ → (a ≡ b) × (r ≡ r′)
+  v0-one f g = answers-one (ap toldVoltage (voltage-one (f .promised) (g .promised))) (f .answers) (g .answers)
+
+  module _ {a r : ℕ} (f : VoltageOut resistor contrast before a r) where
+    pub v0-number : r ≡ cond (ltb 7 resistor || ltb 63 contrast) outOfRange 0
+    v0-number = f .answers .number ∙ ap (λ o. o .number) (f .promised .tells) ∙ test-number (ltb 7 resistor || ltb 63 contrast) outOfRange (numerator resistor contrast)
+
+    pub v0-0 : Exactly (r ≡ 0) ((resistor ≤ 7) × (contrast ≤ 63))
+    v0-0 =
+        then (same-number v0-number)
+        (then (only (ltb 7 resistor || ltb 63 contrast) outOfRange (λ e. omega arith)) (
+          λ e. (ltb-false 7 resistor (or-left (ltb 7 resistor) (ltb 63 contrast) e), ltb-false 63 contrast (or-right (ltb 7 resistor) (ltb 63 contrast) e)),
+          λ h. rw (le-ltb 7 resistor (h .0), le-ltb 63 contrast (h .1)),
+        ))
+
+-- ---- instructions by number
+
+module _ (aw byte : ℕ) (before : ℕ × ℕ) where
+  pub read-out-one : {a b : ℕ × ℕ} {r r′ : ℕ} → ReadOut aw byte before a r → ReadOut aw byte before b r′ → (a ≡ b) × (r ≡ r′)
+  read-out-one f g =
+      answers-one (ap toldReading (if-both (ltb 2 aw) (f .promised) (g .promised) (λ p q. p ∙ sym q) (λ p q. read-one p q))) (f .answers) (g .answers)
+
+  -- the reader's number: 4 where nothing is awaited and the byte is unassigned
+  unassigned-number : byte < 256 → (w : Awaited) (a : Reading) → IsRead numbers0713 w byte a → toldReading a .number ≡ cond (nothingAwaited w && not (assigned byte)) 4 0
+  unassigned-number h awaited.Nothing (reading.ReadAs i) p = rw (read-some numbers0713 byte h i (sym (ap (λ t. t .value) (p .tells))))
+  unassigned-number h awaited.Contrast (reading.ReadAs i) p = refl
+  unassigned-number h awaited.Indicator (reading.ReadAs i) p = refl
+  unassigned-number h w (reading.Unread n) p = let u = unread-4 numbers0713 byte h w n p in rw (u .1, u .2) (u .0)
+
+  module _ (h : byte < 256) {a : ℕ × ℕ} {r : ℕ} (f : ReadOut aw byte before a r) where
+    pub read-number : r ≡ cond (ltb 2 aw) outOfRange (cond (nothingAwaited (awaitedOf aw) && not (assigned byte)) 4 0)
+    read-number = f .answers .number ∙ if-split (ltb 2 aw) (f .promised)
+        (λ t p. ap (λ a. toldReading a .number) p ∙ rw t refl)
+        (λ t p. unassigned-number h (awaitedOf aw) (f .answer) p ∙ rw t refl)
+
+    pub read-0 : Exactly (r ≡ 0) ((aw ≤ 2) × ((nothingAwaited (awaitedOf aw) && not (assigned byte)) ≡ false))
+    read-0 =
+        then (same-number read-number)
+        (then (past (ltb 2 aw) outOfRange _ 0 (λ e. omega arith))
+        (both (ltb-false 2 aw, le-ltb 2 aw) (only (nothingAwaited (awaitedOf aw) && not (assigned byte)) 4 (λ e. omega arith))))
+
+-- a number and a value name an instruction, and its value is inside its field
+abbrev pub Writable : Option Instruction → Type 0
+Writable (some i) = Fits numbers0713 i
+Writable none = ⊥
+
+module _ (number value byte : ℕ) where
+  written-if-one : (x : Option Instruction) (a b : Writing) → WrittenIf x a → WrittenIf x b → a ≡ b
+  written-if-one (some i) a b p q = written-one p q
+  written-if-one none a b p q = p ∙ sym q
+
+  pub write-out-one : {a b r r′ : ℕ} → WriteOut number value byte a r → WriteOut number value byte b r′ → (a ≡ b) × (r ≡ r′)
+  write-out-one f g =
+      answers-one (ap toldWriting (written-if-one (named number value) (f .answer) (g .answer) (f .promised) (g .promised))) (f .answers) (g .answers)
+
+  writable : (x : Option Instruction) (a : Writing) (r : ℕ) → WrittenIf x a → r ≡ toldWriting a .number → Exactly (r ≡ 0) (Writable x)
+  writable (some i) a r p e = same-number (e ∙ ap (λ t. t .number) (p .tells))
+  writable none a r p e = (λ z. let n : outsideField ≡ 0 = sym (ap (λ a. toldWriting a .number) p) ∙ sym e ∙ z in omega arith, λ z. absurd z)
+
+  pub write-0 : {a r : ℕ} → WriteOut number value byte a r → Exactly (r ≡ 0) (Writable (named number value))
+  write-0 {r = r} f = writable (named number value) (f .answer) r (f .promised) (f .answers .number)
+
+-- ---- pictures
+
+-- both outputs have room for so many bytes
+abbrev pub Room : ℕ → List ℕ → List ℕ → Type 0
+Room need out kinds = (need ≤ length out) × (need ≤ length kinds)
+
+room : (need : ℕ) (out kinds : List ℕ) → (ShortOutput need out kinds → ⊥) → Room need out kinds
+room need out kinds h = (
+  less (length out) need (λ l. absurd (h (inl l))) (λ l. l),
+  less (length kinds) need (λ l. absurd (h (inr l))) (λ l. l),
+)
+
+no-short : (need : ℕ) (out kinds : List ℕ) → Room need out kinds → ShortOutput need out kinds → ⊥
+no-short need out kinds h (inl l) = omega arith
+no-short need out kinds h (inr l) = omega arith
+
+-- an answer that is not refused
+not-so : (n : ℕ) {a : Count} → toldCount a .number ≡ 0 → n ≢ 0 → a ≢ count.Refused n
+not-so n z h e = h (sym (ap (λ a. toldCount a .number) e) ∙ z)
+
+module _ (recorded wanted : List ℕ) where
+  module _ (before : ℕ × ℕ × ℕ) where
+    pub first-out-one : {a b : ℕ × ℕ × ℕ} {r r′ : ℕ} → FirstOut recorded wanted before a r → FirstOut recorded wanted before b r′ → (a ≡ b) × (r ≡ r′)
+    first-out-one f g = answers-one (ap toldFound (first-one (f .promised) (g .promised))) (f .answers) (g .answers)
+
+    module _ {a : ℕ × ℕ × ℕ} {r : ℕ} (f : FirstOut recorded wanted before a r) where
+      pub first-number : r ≡ cond (misfit 132 recorded || misfit 132 wanted) wrongSize 0
+      first-number = f .answers .number ∙ split (misfit 132 recorded || misfit 132 wanted)
+          (λ t. ap (λ a. toldFound a .number) (first-1 132 recorded wanted (f .answer) (f .promised) .1 (wrong-size 132 recorded wanted .0 t)) ∙ rw t refl)
+          (λ t. ap (λ o. o .number) (f .promised .tells ∙ first-given 132 recorded wanted t) ∙ rw t refl)
+
+      pub first-0 : Exactly (r ≡ 0) (RightSize 132 recorded wanted)
+      first-0 =
+          then (same-number first-number)
+          (then (only (misfit 132 recorded || misfit 132 wanted) wrongSize (λ e. omega arith)) (right-size 132 recorded wanted))
+
+  module _ (bytes : ℕ) where
+    pub length-out-one : {a b r r′ : ℕ} → LengthOut recorded wanted bytes a r → LengthOut recorded wanted bytes b r′ → (a ≡ b) × (r ≡ r′)
+    length-out-one f g = answers-one (ap toldCount (length-one (f .promised) (g .promised))) (f .answers) (g .answers)
+
+    module _ {a r : ℕ} (f : LengthOut recorded wanted bytes a r) where
+      pub length-number : r ≡ cond (misfit 132 recorded || misfit 132 wanted) wrongSize 0
+      length-number =
+          f .answers .number ∙ ap (λ o. o .number) (f .promised .tells)
+          ∙ test-number (misfit 132 recorded || misfit 132 wanted) wrongSize (updateLength 132 recorded wanted)
+
+      pub length-0 : Exactly (r ≡ 0) (RightSize 132 recorded wanted)
+      length-0 =
+          then (same-number length-number)
+          (then (only (misfit 132 recorded || misfit 132 wanted) wrongSize (λ e. omega arith)) (right-size 132 recorded wanted))
+
+  module _ (out kinds : List ℕ) (bytes : ℕ) where
+    pub update-out-one : {o k o′ k′ : List ℕ} {a b r r′ : ℕ} → UpdateOut recorded wanted out kinds bytes o k a r → UpdateOut recorded wanted out kinds bytes o′ k′ b r′
+        → (o ≡ o′) × (k ≡ k′) × (a ≡ b) × (r ≡ r′)
+    update-out-one f g =
+        let p = update-one 132 recorded wanted (f .promised) (g .promised) in
+        let q = answers-one (ap toldCount (p .0)) (f .answers) (g .answers) in
+        (p .1, p .2, q .0, q .1)
+
+    pub update-number : {o k : List ℕ} {a r : ℕ} → UpdateOut recorded wanted out kinds bytes o k a r → r ≡ updateRefusal 132 recorded wanted out kinds
+    update-number f = f .answers .number ∙ ap (λ o. o .number) (f .promised .tells) ∙ number-number (updateRefusal 132 recorded wanted out kinds) _
+
+    update-given : (a : Count) (o k : List ℕ) → IsUpdate 132 recorded wanted out kinds a o k
+        → Exactly (toldCount a .number ≡ 0) (RightSize 132 recorded wanted × Room (updateLength 132 recorded wanted) out kinds)
+    update-given a o k p = (
+      λ z. split (misfit 132 recorded || misfit 132 wanted)
+          (λ t. absurd (not-so 1 z (λ e. omega arith) (update-1 132 recorded wanted out kinds a o k p .1 (wrong-size 132 recorded wanted .0 t))))
+          (λ t. let fit = right-size 132 recorded wanted .0 t in
+          (fit, room (updateLength 132 recorded wanted) out kinds (λ h. not-so 5 z (λ e. omega arith) (update-5 132 recorded wanted out kinds a o k p .1 (fit, h))))),
+      update-back a o k p,
+    )
+      where
+        update-back : (a : Count) (o k : List ℕ) → IsUpdate 132 recorded wanted out kinds a o k
+            → RightSize 132 recorded wanted × Room (updateLength 132 recorded wanted) out kinds → toldCount a .number ≡ 0
+        update-back (count.Bytes n) o k p h = refl
+        update-back (count.Refused n) o k p h = absurd (⊎-elim
+            (λ e. ⊎-elim (λ q. q (h .0 .0)) (λ q. q (h .0 .1)) (update-1 132 recorded wanted out kinds (count.Refused n) o k p .0 (ap count.Refused e)))
+            (λ e. no-short (updateLength 132 recorded wanted) out kinds (h .1) (update-5 132 recorded wanted out kinds (count.Refused n) o k p .0 (ap count.Refused e) .1))
+            (update-only 132 recorded wanted out kinds n o k p))
+
+    pub update-0 : {o k : List ℕ} {a r : ℕ} → UpdateOut recorded wanted out kinds bytes o k a r
+        → Exactly (r ≡ 0) (RightSize 132 recorded wanted × Room (updateLength 132 recorded wanted) out kinds)
+    update-0 {o} {k} f = then (same-number (f .answers .number)) (update-given (f .answer) o k (f .promised))
+
+module _ (wanted : List ℕ) (contrast : ℕ) (out kinds : List ℕ) (bytes : ℕ) where
+  pub redraw-out-one : {o k o′ k′ : List ℕ} {a b r r′ : ℕ} → RedrawOut wanted contrast out kinds bytes o k a r → RedrawOut wanted contrast out kinds bytes o′ k′ b r′
+      → (o ≡ o′) × (k ≡ k′) × (a ≡ b) × (r ≡ r′)
+  redraw-out-one f g =
+      let p = redraw-one 132 wanted contrast (f .promised) (g .promised) in
+      let q = answers-one (ap toldCount (p .0)) (f .answers) (g .answers) in
+      (p .1, p .2, q .0, q .1)
+
+  pub redraw-number : {o k : List ℕ} {a r : ℕ} → RedrawOut wanted contrast out kinds bytes o k a r → r ≡ redrawRefusal 132 wanted contrast out kinds
+  redraw-number f = f .answers .number ∙ ap (λ o. o .number) (f .promised .tells) ∙ number-number (redrawRefusal 132 wanted contrast out kinds) _
+
+  redraw-given : (a : Count) (o k : List ℕ) → IsRedraw 132 wanted contrast out kinds a o k
+      → Exactly (toldCount a .number ≡ 0) ((length wanted ≡ 1188) × ((contrast ≤ 63) × Room 1219 out kinds))
+  redraw-given a o k p = (
+    λ z. split (misfit 132 wanted)
+        (λ t. absurd (not-so 1 z (λ e. omega arith) (redraw-1 132 wanted contrast out kinds a o k p .1 (misfit-yes 132 wanted .0 t))))
+        (λ t. let fit = misfit-no 132 wanted .0 t in
+        less 63 contrast
+        (λ l. absurd (not-so 6 z (λ e. omega arith) (redraw-6 132 wanted contrast out kinds a o k p .1 (fit, l))))
+        (λ l. (fit, (l, room 1219 out kinds (λ h. not-so 5 z (λ e. omega arith) (redraw-5 132 wanted contrast out kinds a o k p .1 (fit, (l, h)))))))),
+    redraw-back a o k p,
+  )
+    where
+      redraw-back : (a : Count) (o k : List ℕ) → IsRedraw 132 wanted contrast out kinds a o k
+          → (length wanted ≡ 1188) × ((contrast ≤ 63) × Room 1219 out kinds) → toldCount a .number ≡ 0
+      redraw-back (count.Bytes n) o k p h = refl
+      redraw-back (count.Refused n) o k p h = absurd (⊎-elim
+          (λ e. redraw-1 132 wanted contrast out kinds (count.Refused n) o k p .0 (ap count.Refused e) (h .0))
+          (⊎-elim
+          (λ e. let l = redraw-6 132 wanted contrast out kinds (count.Refused n) o k p .0 (ap count.Refused e) .1 in omega (arith, h .1 .0))
+          (λ e. no-short 1219 out kinds (h .1 .1) (redraw-5 132 wanted contrast out kinds (count.Refused n) o k p .0 (ap count.Refused e) .1 .1)))
+          (redraw-only 132 wanted contrast out kinds n o k p))
+
+  pub redraw-0 : {o k : List ℕ} {a r : ℕ} → RedrawOut wanted contrast out kinds bytes o k a r
+      → Exactly (r ≡ 0) ((length wanted ≡ 1188) × ((contrast ≤ 63) × Room 1219 out kinds))
+  redraw-0 {o} {k} f = then (same-number (f .answers .number)) (redraw-given (f .answer) o k (f .promised))

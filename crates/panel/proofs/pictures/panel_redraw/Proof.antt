@@ -1,0 +1,22 @@
+-- `panel::pictures::panel_redraw` meets its contract: the planner's answer, told.
+-- Assumes nothing.
+use mathlib.Core.Path.{ap}
+use borrow.Author.Needs.{needs}
+use Rattle.planner.specs.Count.{toldCount}
+use Rattle.panel.proofs.Answering.{gives, refuses}
+use Rattle.panel.proofs.pictures.panel_redraw.Statement.{statement}
+use Rattle.panel.proofs.pictures.panel_redraw.Tie as tie
+
+pub panel-redraw-spec : {M : Type 1} → statement M
+panel-redraw-spec =
+    tie.close
+    (tie.spec
+    (λ c κs. search needs)
+    (λ c. search needs)
+    (λ c. search needs)
+    (λ c. search needs)
+    (λ c. search needs)
+    (λ c. gives _ _ (c .before .before .before .before .before .before .before .redraw .ensures) (ap toldCount (c .before .bytes .given .1)))
+    (λ c. search needs)
+    (λ c. search needs)
+    (λ c. refuses _ _ (c .before .before .before .before .before .before .before .redraw .ensures) (ap toldCount (c .before .number .given .1))))

@@ -1,0 +1,18 @@
+-- `panel::pictures::panel_update_length` meets its contract: the planner's answer, told.
+-- Assumes nothing.
+use mathlib.Core.Path.{ap}
+use borrow.Author.Needs.{needs}
+use Rattle.planner.specs.Count.{toldCount}
+use Rattle.panel.proofs.Answering.{gives, refuses}
+use Rattle.panel.proofs.pictures.panel_update_length.Statement.{statement}
+use Rattle.panel.proofs.pictures.panel_update_length.Tie as tie
+
+pub panel-update-length-spec : {M : Type 1} → statement M
+panel-update-length-spec =
+    tie.close
+    (tie.spec
+    (λ c κs. search needs)
+    (λ c. search needs)
+    (λ c. search needs)
+    (λ c. gives _ _ (c .before .before .before .update-length .ensures) (ap toldCount (c .before .bytes .given .1)))
+    (λ c. refuses _ _ (c .before .before .before .update-length .ensures) (ap toldCount (c .before .number .given .1))))

@@ -1,0 +1,13 @@
+-- `panel::state::awaited_of` meets its contract.
+-- Assumes nothing.
+use Rattle.instructions.proofs.Tests.{tests}
+use Rattle.panel.proofs.state.awaited_of.Statement.{statement}
+use Rattle.panel.proofs.state.awaited_of.Tie as tie
+
+pub awaited-of-spec : {M : Type 1} → statement M
+awaited-of-spec =
+    tie.close
+    (tie.spec
+    (λ c. search tests)
+    (λ c. search tests)
+    (λ c. search tests))

@@ -1,0 +1,12 @@
+-- `panel::state::modify_of` meets its contract.
+-- Assumes nothing.
+use Rattle.instructions.proofs.Tests.{tests}
+use Rattle.panel.proofs.state.modify_of.Statement.{statement}
+use Rattle.panel.proofs.state.modify_of.Tie as tie
+
+pub modify-of-spec : {M : Type 1} → statement M
+modify-of-spec =
+    tie.close
+    (tie.spec
+    (λ c. search tests)
+    (λ c. search tests))

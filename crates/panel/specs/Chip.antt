@@ -1,0 +1,86 @@
+-- What the calls on the packed state promise in C.
+-- Assumes nothing.
+use Prim.Native.Nat.{ℕ}
+use mathlib.Core.Path.{_≡_}
+use mathlib.Core.Bool.{Bool, cond, _||_}
+use mathlib.Core.List.{List}
+use Rattle.instructions.specs.Refusal.{wrongSize, outOfRange}
+use Rattle.instructions.specs.Numbers.{numbers0713}
+use Rattle.controller.specs.Registers.{PoweredUp}
+use Rattle.controller.specs.Cycle.{outcome, Cycled}
+use Rattle.controller.specs.declared.registers.Registers.{Registers}
+use Rattle.controller.specs.declared.cycle.Answer.{Answer}
+use Rattle.controller.specs.declared.cycle.Answer.the-variants as cycle
+use Rattle.glass.specs.Frame.{toldShown, IsShown}
+use Rattle.glass.specs.Power.{toldPower, IsPower}
+use Rattle.glass.specs.Voltage.{toldVoltage, IsVoltage}
+use Rattle.glass.specs.declared.frame.Shown.{Shown}
+use Rattle.glass.specs.declared.frame.Shown.the-variants as shown
+use Rattle.glass.specs.declared.power.PowerState.{PowerState}
+use Rattle.glass.specs.declared.power.PowerState.the-variants.{Normal, Sleep, Standby}
+use Rattle.glass.specs.declared.power.Powered.{Powered}
+use Rattle.glass.specs.declared.power.Powered.the-variants as powered
+use Rattle.planner.specs.Pictures.{misfit}
+use Rattle.panel.specs.Answers.{Through, If, leftBy, same}
+use Rattle.panel.specs.State.{packed, unpacked, unfit}
+
+-- power-up always gives a state, that of the registers at power-up
+pub record PowerUpOut (state′ : List ℕ) (r : ℕ) : Type 0 where
+  pub registers : Registers
+  pub promised : PoweredUp numbers0713 registers
+  pub left : state′ ≡ packed registers
+  pub number : r ≡ 0
+
+-- an unfit state is refused with 2, but with 1 where a buffer's size is wrong
+abbrev pub unfitNumber : Bool → ℕ
+unfitNumber wrong = cond wrong wrongSize outOfRange
+
+-- ---- one cycle
+
+-- the controller's answer to the registers that the state stands for
+abbrev pub CycledOn : List ℕ → List ℕ → ℕ → ℕ → Answer → List ℕ → Type 0
+CycledOn state memory kind value a memory′ =
+    If (unfit state) ((a ≡ cycle.Refused (unfitNumber (misfit 132 memory))) × (memory′ ≡ memory))
+    (Cycled numbers0713 (unpacked state) memory kind value a memory′)
+
+-- the state is that of the registers after it where they may change, and a byte that is read is told by `read` 1; refused with 1, 2,
+-- 9, 3, 4 in this order
+pub record CycleOut (state memory : List ℕ) (kind value read byte : ℕ) (state′ memory′ : List ℕ) (read′ byte′ r : ℕ) : Type 0 where
+  pub answer : Answer
+  pub promised : CycledOn state memory kind value answer memory′
+  pub number : r ≡ outcome answer .number
+  pub state-left : state′ ≡ leftBy packed state (outcome answer .registers)
+  pub read-left : read′ ≡ leftBy (λ (b : ℕ). 1) read (outcome answer .byte)
+  pub byte-left : byte′ ≡ leftBy same byte (outcome answer .byte)
+
+-- ---- the glass
+
+-- the glass's answer to the registers that the state stands for
+abbrev pub ShownOn : List ℕ → List ℕ → List ℕ → Shown → List ℕ → Type 0
+ShownOn state memory frame a frame′ =
+    If (unfit state) ((a ≡ shown.Refused (unfitNumber (misfit 132 memory || misfit 132 frame))) × (frame′ ≡ frame))
+    (IsShown numbers0713 (unpacked state) memory frame a frame′)
+
+-- the frame is drawn, or refused with 1, 2 and left
+pub record FrameOut (state memory frame frame′ : List ℕ) (r : ℕ) : Type 0 where
+  pub answer : Shown
+  pub promised : ShownOn state memory frame answer frame′
+  pub number : r ≡ toldShown answer .number
+
+-- 0 normal, 1 sleep, 2 standby
+abbrev pub powerByte : PowerState → ℕ
+powerByte Normal = 0
+powerByte Sleep = 1
+powerByte Standby = 2
+
+-- the glass's answer to the registers that the state stands for
+abbrev pub PoweredOn : List ℕ → Powered → Type 0
+PoweredOn state a = If (unfit state) (a ≡ powered.Refused outOfRange) (IsPower numbers0713 (unpacked state) a)
+
+-- the power state: refused with 2
+abbrev pub PowerOut : List ℕ → ℕ → ℕ → ℕ → Type 0
+PowerOut state answer answer′ r = Through (PoweredOn state) toldPower powerByte answer answer′ r
+
+-- V0's numerator over 15: refused with 2
+abbrev pub VoltageOut : ℕ → ℕ → ℕ → ℕ → ℕ → Type 0
+VoltageOut resistor contrast numerator numerator′ r = Through (IsVoltage resistor contrast) toldVoltage same numerator numerator′ r

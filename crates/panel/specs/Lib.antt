@@ -1,0 +1,5 @@
+pub mod Answers
+pub mod State
+pub mod Chip
+pub mod Bytes
+pub mod Pictures

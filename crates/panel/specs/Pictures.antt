@@ -1,0 +1,33 @@
+-- What the calls on pictures promise in C.
+-- Assumes nothing.
+use Prim.Native.Nat.{ℕ}
+use mathlib.Core.Option.{Option, none, some}
+use mathlib.Core.List.{List}
+use Rattle.streams.specs.Stretch.{Place}
+use Rattle.planner.specs.First.{toldFound, IsFirst}
+use Rattle.planner.specs.Count.{toldCount, IsLength}
+use Rattle.planner.specs.Sent.{IsUpdate, IsRedraw}
+use Rattle.panel.specs.Answers.{Through, same}
+
+-- the three out-parameters of the first difference: found, page and column. Where there is none, page and column stay
+abbrev pub placeOut : ℕ × ℕ → Option Place → ℕ × ℕ × ℕ
+placeOut at (some x) = (1, x .page, x .column)
+placeOut at none = (0, at .0, at .1)
+
+-- the planner's first difference: refused with 1
+abbrev pub FirstOut : List ℕ → List ℕ → ℕ × ℕ × ℕ → ℕ × ℕ × ℕ → ℕ → Type 0
+FirstOut recorded wanted out out′ r = Through (IsFirst 132 recorded wanted) toldFound (placeOut (out .1, out .2)) out out′ r
+
+-- the update's length: refused with 1
+abbrev pub LengthOut : List ℕ → List ℕ → ℕ → ℕ → ℕ → Type 0
+LengthOut recorded wanted count count′ r = Through (IsLength 132 recorded wanted) toldCount same count count′ r
+
+-- the update, in both outputs: refused with 1, 5
+abbrev pub UpdateOut : List ℕ → List ℕ → List ℕ → List ℕ → ℕ → List ℕ → List ℕ → ℕ → ℕ → Type 0
+UpdateOut recorded wanted out kinds count out′ kinds′ count′ r =
+    Through (λ a. IsUpdate 132 recorded wanted out kinds a out′ kinds′) toldCount same count count′ r
+
+-- the redraw, in both outputs: refused with 1, 6, 5
+abbrev pub RedrawOut : List ℕ → ℕ → List ℕ → List ℕ → ℕ → List ℕ → List ℕ → ℕ → ℕ → Type 0
+RedrawOut wanted contrast out kinds count out′ kinds′ count′ r =
+    Through (λ a. IsRedraw 132 wanted contrast out kinds a out′ kinds′) toldCount same count count′ r

@@ -1,0 +1,79 @@
+-- The state: the registers in 32 bytes, each at its offset, the spare ones 0.
+-- Assumes nothing.
+use Prim.Native.Nat.{ℕ, zero, suc, _+_}
+use mathlib.Core.Bool.{Bool, true, false, cond, _&&_, _||_}
+use mathlib.Core.List.{List, [], _∷_}
+use lib.ListN.{getD}
+use lib.Dec.{ltb, eqb}
+use Rattle.instructions.specs.declared.instruction.Awaited.{Awaited}
+use Rattle.instructions.specs.declared.instruction.Awaited.the-variants as awaited
+use Rattle.controller.specs.Registers.{regs, column}
+use Rattle.controller.specs.declared.registers.ModifyRead.{ModifyRead}
+use Rattle.controller.specs.declared.registers.ModifyRead.the-variants.{Off, On}
+use Rattle.controller.specs.declared.registers.Registers.{Registers}
+
+-- ---- a register as a byte, and back
+
+-- a register of 0 or 1
+abbrev pub flagByte : Bool → ℕ
+flagByte true = 1
+flagByte false = 0
+
+-- modify-read, 0 or 1, and beside it the saved column, 0 while modify-read is 0
+abbrev pub modifyByte : ModifyRead → ℕ
+modifyByte Off = 0
+modifyByte (On c) = 1
+
+abbrev pub savedByte : ModifyRead → ℕ
+savedByte Off = 0
+savedByte (On c) = c .0
+
+abbrev pub modifyOf : ℕ → ℕ → ModifyRead
+modifyOf b saved = cond (eqb b 1) (On (column saved)) Off
+
+-- which second byte is awaited: 0 nothing, 1 contrast, 2 indicator
+abbrev pub awaitedByte : Awaited → ℕ
+awaitedByte awaited.Nothing = 0
+awaitedByte awaited.Contrast = 1
+awaitedByte awaited.Indicator = 2
+
+abbrev pub awaitedOf : ℕ → Awaited
+awaitedOf b = cond (eqb b 1) awaited.Contrast (cond (eqb b 2) awaited.Indicator awaited.Nothing)
+
+-- ---- the whole state
+
+-- page 0, column 1, start line 2, contrast 3, resistor 4, power 5, bias 6, ADC 7, SHL 8, reverse 9, entire 10, on 11, indicator 12,
+-- indicator value 13, holder 14, pin low 15, modify-read 16, saved column 17, awaited 18, and 19 to 31 spare
+unfoldable pub packed : Registers → List ℕ
+packed r =
+    r .page ∷ r .column .0 ∷ r .«start_line» ∷ r .contrast ∷ r .resistor ∷ r .power
+    ∷ flagByte (r .bias) ∷ flagByte (r .adc) ∷ flagByte (r .shl) ∷ flagByte (r .reverse) ∷ flagByte (r .entire) ∷ flagByte (r .on)
+    ∷ flagByte (r .indicator) ∷ r .«indicator_value» ∷ r .holder ∷ flagByte (r .«pin_low»)
+    ∷ modifyByte (r .«modify_read») ∷ savedByte (r .«modify_read») ∷ awaitedByte (r .awaited)
+    ∷ 0 ∷ 0 ∷ 0 ∷ 0 ∷ 0 ∷ 0 ∷ 0 ∷ 0 ∷ 0 ∷ 0 ∷ 0 ∷ 0 ∷ 0 ∷ []
+
+unfoldable pub unpacked : List ℕ → Registers
+unpacked b =
+    regs (getD b 0 0) (column (getD b 1 0)) (getD b 2 0) (getD b 3 0) (getD b 4 0) (getD b 5 0)
+    (eqb (getD b 6 0) 1) (eqb (getD b 7 0) 1) (eqb (getD b 8 0) 1) (eqb (getD b 9 0) 1) (eqb (getD b 10 0) 1) (eqb (getD b 11 0) 1)
+    (eqb (getD b 12 0) 1) (getD b 13 0) (getD b 14 0) (eqb (getD b 15 0) 1) (modifyOf (getD b 16 0) (getD b 17 0)) (awaitedOf (getD b 18 0))
+
+-- ---- bytes that stand for no registers
+
+-- one of the n bytes from i on is above `most`
+abbrev pub above : ℕ → List ℕ → ℕ → ℕ → Bool
+above most b i zero = false
+above most b i (suc n) = above most b i n || ltb most (getD b (i + n) 0)
+
+-- a byte that is to be 0 or 1 is neither: offsets 6 to 12, 15 and 16
+unfoldable pub oddFlag : List ℕ → Bool
+oddFlag b = above 1 b 6 7 || ltb 1 (getD b 15 0) || ltb 1 (getD b 16 0)
+
+-- a spare byte is not 0
+unfoldable pub spareUsed : List ℕ → Bool
+spareUsed b = above 0 b 19 13
+
+-- the bytes stand for no registers: a flag is neither 0 nor 1, a column is saved while modify-read is off, the awaited byte is none
+-- of the three, or a spare byte is not 0. The other registers' ranges are the controller's `outside`; both are refused with 2
+unfoldable pub unfit : List ℕ → Bool
+unfit b = oddFlag b || (eqb (getD b 16 0) 0 && ltb 0 (getD b 17 0)) || ltb 2 (getD b 18 0) || spareUsed b

@@ -1,0 +1,150 @@
+// The chip over its packed state: power-up, one cycle, the lit frame, the power state and V0.
+ghost use mathlib.Core.Path.{_≡_};
+ghost use Rattle.panel.specs.Chip.{PowerUpOut, unfitNumber, CycledOn, CycleOut, ShownOn, FrameOut, powerByte, PoweredOn, PowerOut, VoltageOut};
+use crate::state::is_unfit;
+use crate::state::pack;
+use crate::state::unpack;
+use controller::cycle::Answer;
+use controller::cycle::cycle;
+use controller::start::power_up;
+use glass::frame::Shown;
+use glass::frame::frame;
+use glass::power::PowerState;
+use glass::power::Powered;
+use glass::power::power_state;
+use glass::voltage::Voltage;
+use glass::voltage::v0;
+use instructions::numbers::ks0713;
+use instructions::refusal::OUT_OF_RANGE;
+use instructions::refusal::WRONG_SIZE;
+
+// The state at power-up. Refuses nothing.
+#[no_mangle]
+pub extern "C" fn panel_power_up(state: &mut [u8; 32]) -> u8
+    ensures { λ r. ⌜ PowerUpOut (now (state .exit)) r ⌝ }
+{
+    *state = pack(power_up());
+    0
+}
+
+// The number that an unfit state is refused with: 2, but 1 where a buffer's size is wrong.
+fn unfit_number(wrong: bool) -> u8
+    ensures { λ n. ⌜ n ≡ unfitNumber wrong ⌝ }
+{
+    if wrong { WRONG_SIZE } else { OUT_OF_RANGE }
+}
+
+// One cycle on the registers that the state stands for.
+fn cycle_on(state: &[u8; 32], memory: &mut [u8], kind: u8, value: u8) -> Answer
+    ensures { λ a. ⌜ CycledOn (now (state .entry)) (now (memory .entry)) kind value a (now (memory .exit)) ⌝ }
+{
+    let size = 9 * ks0713().width;
+    if is_unfit(state) {
+        return Answer::Refused(unfit_number(memory.len() != size));
+    }
+    cycle(unpack(state), memory, kind, value)
+}
+
+// One cycle on the bus. A byte that is read goes to `byte`, and `read` becomes 1. Refuses with 1, 2, 9, 3, 4.
+#[no_mangle]
+pub extern "C" fn panel_cycle(
+    state: &mut [u8; 32],
+    memory: &mut [u8],
+    kind: u8,
+    value: u8,
+    read: &mut u8,
+    byte: &mut u8,
+) -> u8
+    ensures { λ r. ⌜ CycleOut (now (state .entry)) (now (memory .entry)) kind value (now (read .entry)) (now (byte .entry))
+        (now (state .exit)) (now (memory .exit)) (now (read .exit)) (now (byte .exit)) r ⌝ }
+{
+    match cycle_on(&*state, memory, kind, value) {
+        Answer::Done(after) => {
+            *state = pack(after);
+            0
+        }
+        Answer::Status(status) => {
+            *read = 1;
+            *byte = status;
+            0
+        }
+        Answer::Read(holder, after) => {
+            *state = pack(after);
+            *read = 1;
+            *byte = holder;
+            0
+        }
+        Answer::Refused(number) => number,
+    }
+}
+
+// The lit frame of the registers that the state stands for.
+fn frame_on(state: &[u8; 32], memory: &[u8], out: &mut [u8]) -> Shown
+    ensures { λ a. ⌜ ShownOn (now (state .entry)) (now (memory .entry)) (now (out .entry)) a (now (out .exit)) ⌝ }
+{
+    let size = 9 * ks0713().width;
+    if is_unfit(state) {
+        return Shown::Refused(unfit_number((memory.len() != size) | (out.len() != size)));
+    }
+    frame(unpack(state), memory, out)
+}
+
+// Draws the lit frame. Refuses with 1, 2.
+#[no_mangle]
+pub extern "C" fn panel_frame(state: &[u8; 32], memory: &[u8], frame: &mut [u8]) -> u8
+    ensures { λ r. ⌜ FrameOut (now (state .entry)) (now (memory .entry)) (now (frame .entry)) (now (frame .exit)) r ⌝ }
+{
+    match frame_on(state, memory, frame) {
+        Shown::Drawn => 0,
+        Shown::Refused(number) => number,
+    }
+}
+
+// A power state as a byte: 0 normal, 1 sleep, 2 standby.
+fn power_byte(power: PowerState) -> u8
+    ensures { λ b. ⌜ b ≡ powerByte power ⌝ }
+{
+    match power {
+        PowerState::Normal => 0,
+        PowerState::Sleep => 1,
+        PowerState::Standby => 2,
+    }
+}
+
+// The power state of the registers that the state stands for.
+fn power_on(state: &[u8; 32]) -> Powered
+    ensures { λ a. ⌜ PoweredOn (now (state .entry)) a ⌝ }
+{
+    if is_unfit(state) {
+        return Powered::Refused(OUT_OF_RANGE);
+    }
+    power_state(unpack(state))
+}
+
+// The power state: 0 normal, 1 sleep, 2 standby. Refuses with 2.
+#[no_mangle]
+pub extern "C" fn panel_power_state(state: &[u8; 32], answer: &mut u8) -> u8
+    ensures { λ r. ⌜ PowerOut (now (state .entry)) (now (answer .entry)) (now (answer .exit)) r ⌝ }
+{
+    match power_on(state) {
+        Powered::State(power) => {
+            *answer = power_byte(power);
+            0
+        }
+        Powered::Refused(number) => number,
+    }
+}
+
+// V0 in millivolts, as a number of fifteenths. Refuses with 2.
+#[no_mangle]
+pub extern "C" fn panel_v0(resistor: u8, contrast: u8, numerator: &mut u32) -> u8
+    ensures { λ r. ⌜ VoltageOut resistor contrast (now (numerator .entry)) (now (numerator .exit)) r ⌝ }
+{
+    match v0(resistor, contrast) {
+        Voltage::Fifteenths(fifteenths) => {
+            *numerator = fifteenths;
+            0
+        }
+        Voltage::Refused(number) => number,
+    }
+}

@@ -1,0 +1,142 @@
+// The lit frame in rows of characters: rows 0 to 63 are the commons, row 64 is the icon row.
+use crate::play::blank;
+use controller::registers::Registers;
+use glass::frame::frame;
+ghost use mathlib.Core.Path.{_≡_};
+ghost use Prim.Native.Nat.{_+_, _^_, _≤_, _<_};
+ghost use lib.ListN.{length};
+ghost use Rattle.instructions.specs.Numbers.{numbers0713};
+ghost use Rattle.controller.specs.Registers.{Ranged};
+ghost use Rattle.glass.specs.Dot.{bitOf};
+ghost use Rattle.glass.specs.Frame.{frameOf, listed};
+ghost use Rattle.viewer.specs.Drawn.{glyph};
+
+// What the bits of a byte count.
+const POWERS: [u8; 8] = [1, 2, 4, 8, 16, 32, 64, 128];
+
+// The lit frame.
+fn lit_frame(registers: Registers, memory: &[u8]) -> [u8; 1188]
+    requires { ⌜ Ranged numbers0713 registers × (length (now memory) ≡ 1188) ⌝ }
+    ensures { λ r. ⌜ (1188 ≡ length r) × (r ≡ frameOf numbers0713 registers (now (memory .entry))) ⌝ }
+{
+    let mut out = blank();
+    frame(registers, memory, &mut out);
+    out
+}
+
+// What bit b counts.
+fn power_of(b: usize) -> u8
+    requires { ⌜ b < 8 ⌝ }
+    ensures { λ r. ⌜ r ≡ 2 ^ b ⌝ }
+{
+    POWERS[b]
+}
+
+// Bit b of a byte.
+fn bit_of(byte: u8, b: usize) -> bool
+    requires { ⌜ b < 8 ⌝ }
+    ensures { λ r. ⌜ r ≡ bitOf byte b ⌝ }
+{
+    byte / power_of(b) % 2 == 1
+}
+
+// A row of a frame under a segment, as the character for a lit dot or the one for a dark dot.
+fn character(frame: &[u8], row: usize, segment: usize, lit: u8, dark: u8) -> u8
+    requires { ⌜ (length (now frame) ≡ 1188) × (row ≤ 64) × (segment < 132) ⌝ }
+    ensures { λ r. ⌜ r ≡ glyph (now (frame .entry)) row segment lit dark ⌝ }
+{
+    if bit_of(frame[132 * (row / 8) + segment], row % 8) {
+        lit
+    } else {
+        dark
+    }
+}
+
+// A row's characters from a segment on, as many as `line` holds.
+fn put_row(frame: &[u8], row: usize, from: usize, lit: u8, dark: u8, line: &mut [u8])
+    requires { ⌜ (length (now frame) ≡ 1188) × (row ≤ 64) × (from + length (now line) ≤ 132) ⌝ }
+    ensures { λ _. ⌜ now (line .exit) ≡ listed (λ k. glyph (now (frame .entry)) row (from + k) lit dark) 0 (length (now (line .entry))) ⌝ }
+{
+    let mut i = 0;
+    while i < line.len() {
+        line[i] = character(frame, row, from + i, lit, dark);
+        i += 1;
+    }
+}
+
+// A row's characters from a segment on and the end of the line, written out by way of `line`.
+fn write_row(frame: &[u8], row: usize, from: usize, lit: u8, dark: u8, line: &mut [u8]) -> bool
+    requires { ⌜ (length (now frame) ≡ 1188) × (row ≤ 64) × (1 ≤ length (now line)) × (from + length (now line) ≤ 133) ⌝ }
+{
+    let n = line.len() - 1;
+    put_row(frame, row, from, lit, dark, &mut line[0..n]);
+    line[n] = b'\n';
+    io::write_all(libc::STDOUT_FILENO, line)
+}
+
+// A row as one line.
+fn draw_row(frame: &[u8], row: usize) -> bool
+    requires { ⌜ (length (now frame) ≡ 1188) × (row ≤ 64) ⌝ }
+{
+    let mut line = [0u8; 133];
+    write_row(frame, row, 0, b'#', b'.', &mut line)
+}
+
+// All 65 rows, as far as they can be written.
+fn draw_rows(frame: &[u8]) -> bool
+    requires { ⌜ length (now frame) ≡ 1188 ⌝ }
+{
+    let mut row = 0;
+    while row < 65 {
+        if !draw_row(frame, row) {
+            return false;
+        }
+        row += 1;
+    }
+    true
+}
+
+// Draws the glass, and answers whether it could be written.
+pub(crate) fn glass(registers: Registers, memory: &[u8]) -> bool
+    requires { ⌜ Ranged numbers0713 registers × (length (now memory) ≡ 1188) ⌝ }
+{
+    let frame = lit_frame(registers, memory);
+    draw_rows(&frame)
+}
+
+// Half of a row: no line of a PBM picture is longer than 70 characters.
+fn pbm_half(frame: &[u8], row: usize, from: usize) -> bool
+    requires { ⌜ (length (now frame) ≡ 1188) × (row ≤ 64) × (from ≤ 66) ⌝ }
+{
+    let mut line = [0u8; 67];
+    write_row(frame, row, from, b'1', b'0', &mut line)
+}
+
+// A row as two lines.
+fn pbm_row(frame: &[u8], row: usize) -> bool
+    requires { ⌜ (length (now frame) ≡ 1188) × (row ≤ 64) ⌝ }
+{
+    pbm_half(frame, row, 0) & pbm_half(frame, row, 66)
+}
+
+// All 65 rows of the picture, as far as they can be written.
+fn pbm_rows(frame: &[u8]) -> bool
+    requires { ⌜ length (now frame) ≡ 1188 ⌝ }
+{
+    let mut row = 0;
+    while row < 65 {
+        if !pbm_row(frame, row) {
+            return false;
+        }
+        row += 1;
+    }
+    true
+}
+
+// Writes the glass as a plain PBM picture, and answers whether it could be written.
+pub(crate) fn pbm(registers: Registers, memory: &[u8]) -> bool
+    requires { ⌜ Ranged numbers0713 registers × (length (now memory) ≡ 1188) ⌝ }
+{
+    let frame = lit_frame(registers, memory);
+    io::write_all(libc::STDOUT_FILENO, b"P1\n132 65\n") & pbm_rows(&frame)
+}

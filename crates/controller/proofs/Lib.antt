@@ -5,3 +5,4 @@ pub mod Chips
 pub mod Unique
 pub mod Numbered
 pub mod Readers
+pub mod ShutOuts

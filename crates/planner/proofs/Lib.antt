@@ -6,3 +6,4 @@ pub mod Sending
 pub mod Exactly
 pub mod Promised
 pub mod Demand3Holds
+pub mod ShutOuts

@@ -1,0 +1,36 @@
+-- What document 01 wants shut out: the same answer for all. A status read tells registers apart that differ in ADC alone.
+-- Assumes nothing.
+use Prim.Native.Nat.{ℕ}
+use mathlib.Core.Path.{_≡_, _∙_, refl, ap, sym}
+use mathlib.Core.Logic.{_≢_}
+use mathlib.Core.Bool.{true, false}
+use mathlib.Core.Option.{Option, some}
+use mathlib.Core.List.{List}
+use native.Mathlib.Omega.{arith}
+use lib.ListN.{length}
+use Rattle.instructions.specs.Numbers.{numbers0713}
+use Rattle.controller.specs.Registers.{outside, withAdc, start}
+use Rattle.controller.specs.Cycle.{outcome, status, carried, Cycled}
+use Rattle.controller.specs.State.{State, state, Restartable}
+use Rattle.controller.specs.declared.registers.Registers.{Registers}
+use Rattle.controller.specs.declared.cycle.Answer.{Answer}
+use Rattle.controller.proofs.Acting.{carries}
+
+-- a status read of a usable chip answers the status byte of its registers
+pub status-told : (r : Registers) (m : List ℕ) (a : Answer) (left : List ℕ) → Restartable numbers0713 (state r m) → Cycled numbers0713 r m 2 0 a left
+    → outcome a .byte ≡ some (status r)
+unfolding carried
+status-told r m a left h f = ap (λ o. o .byte) (f .tells ∙ carries h 2 0 refl)
+
+usable : (r : Registers) (m : List ℕ) → length m ≡ 1188 → outside numbers0713 r ≡ false → r .«pin_low» ≡ false → Restartable numbers0713 (state r m)
+usable r m long e high = record { long = long; ranged = e; high = high }
+
+pub answers-differ : (m : List ℕ) (a b : Answer) (left right : List ℕ) → length m ≡ 1188
+    → Cycled numbers0713 (start numbers0713 0 false) m 2 0 a left → Cycled numbers0713 (withAdc (start numbers0713 0 false) true) m 2 0 b right → a ≢ b
+unfolding outside status
+answers-differ m a b left right long f g e =
+    let p = status-told (start numbers0713 0 false) m a left (usable _ m long refl refl) f in
+    let q = status-told (withAdc (start numbers0713 0 false) true) m b right (usable _ m long refl refl) g in
+    let s : _≡_ {A = Option ℕ} (some 96) (some 32) = sym p ∙ ap (λ x. outcome x .byte) e ∙ q in
+    let z : _≡_ {A = ℕ} 96 32 = cc in
+    omega arith

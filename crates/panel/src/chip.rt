@@ -1,6 +1,7 @@
 // The chip over its packed state: power-up, one cycle, the lit frame, the power state and V0.
 ghost use mathlib.Core.Path.{_≡_};
 ghost use Rattle.panel.specs.Chip.{PowerUpOut, unfitNumber, CycledOn, CycleOut, ShownOn, FrameOut, powerByte, PoweredOn, PowerOut, VoltageOut};
+use crate::state::State;
 use crate::state::is_unfit;
 use crate::state::pack;
 use crate::state::unpack;
@@ -20,7 +21,7 @@ use instructions::refusal::WRONG_SIZE;
 
 // The state at power-up. Refuses nothing.
 #[no_mangle]
-pub extern "C" fn panel_power_up(state: &mut [u8; 32]) -> u8
+pub extern "C" fn panel_power_up(state: &mut State) -> u8
     ensures { λ r. ⌜ PowerUpOut (now (state .exit)) r ⌝ }
 {
     *state = pack(power_up());
@@ -35,7 +36,7 @@ fn unfit_number(wrong: bool) -> u8
 }
 
 // One cycle on the registers that the state stands for.
-fn cycle_on(state: &[u8; 32], memory: &mut [u8], kind: u8, value: u8) -> Answer
+fn cycle_on(state: &State, memory: &mut [u8], kind: u8, value: u8) -> Answer
     ensures { λ a. ⌜ CycledOn (now (state .entry)) (now (memory .entry)) kind value a (now (memory .exit)) ⌝ }
 {
     let size = 9 * ks0713().width;
@@ -48,7 +49,7 @@ fn cycle_on(state: &[u8; 32], memory: &mut [u8], kind: u8, value: u8) -> Answer
 // One cycle on the bus. A byte that is read goes to `byte`, and `read` becomes 1. Refuses with 1, 2, 9, 3, 4.
 #[no_mangle]
 pub extern "C" fn panel_cycle(
-    state: &mut [u8; 32],
+    state: &mut State,
     memory: &mut [u8],
     kind: u8,
     value: u8,
@@ -79,7 +80,7 @@ pub extern "C" fn panel_cycle(
 }
 
 // The lit frame of the registers that the state stands for.
-fn frame_on(state: &[u8; 32], memory: &[u8], out: &mut [u8]) -> Shown
+fn frame_on(state: &State, memory: &[u8], out: &mut [u8]) -> Shown
     ensures { λ a. ⌜ ShownOn (now (state .entry)) (now (memory .entry)) (now (out .entry)) a (now (out .exit)) ⌝ }
 {
     let size = 9 * ks0713().width;
@@ -91,7 +92,7 @@ fn frame_on(state: &[u8; 32], memory: &[u8], out: &mut [u8]) -> Shown
 
 // Draws the lit frame. Refuses with 1, 2.
 #[no_mangle]
-pub extern "C" fn panel_frame(state: &[u8; 32], memory: &[u8], frame: &mut [u8]) -> u8
+pub extern "C" fn panel_frame(state: &State, memory: &[u8], frame: &mut [u8]) -> u8
     ensures { λ r. ⌜ FrameOut (now (state .entry)) (now (memory .entry)) (now (frame .entry)) (now (frame .exit)) r ⌝ }
 {
     match frame_on(state, memory, frame) {
@@ -112,7 +113,7 @@ fn power_byte(power: PowerState) -> u8
 }
 
 // The power state of the registers that the state stands for.
-fn power_on(state: &[u8; 32]) -> Powered
+fn power_on(state: &State) -> Powered
     ensures { λ a. ⌜ PoweredOn (now (state .entry)) a ⌝ }
 {
     if is_unfit(state) {
@@ -123,7 +124,7 @@ fn power_on(state: &[u8; 32]) -> Powered
 
 // The power state: 0 normal, 1 sleep, 2 standby. Refuses with 2.
 #[no_mangle]
-pub extern "C" fn panel_power_state(state: &[u8; 32], answer: &mut u8) -> u8
+pub extern "C" fn panel_power_state(state: &State, answer: &mut u8) -> u8
     ensures { λ r. ⌜ PowerOut (now (state .entry)) (now (answer .entry)) (now (answer .exit)) r ⌝ }
 {
     match power_on(state) {

@@ -6,6 +6,9 @@ use controller::registers::ModifyRead;
 use controller::registers::Registers;
 use instructions::instruction::Awaited;
 
+// The state of a chip as C holds it: a register at each offset, spare bytes 0.
+pub type State = [u8; 32];
+
 const PAGE: usize = 0;
 
 const COLUMN: usize = 1;
@@ -106,7 +109,7 @@ pub(crate) fn awaited_of(byte: u8) -> Awaited
 }
 
 // The bytes that stand for the registers.
-pub(crate) fn pack(registers: Registers) -> [u8; 32]
+pub(crate) fn pack(registers: Registers) -> State
     ensures { λ b. ⌜ b ≡ packed registers ⌝ }
 {
     let mode = registers.modify_read;
@@ -135,7 +138,7 @@ pub(crate) fn pack(registers: Registers) -> [u8; 32]
 }
 
 // The registers that the bytes stand for.
-pub(crate) fn unpack(state: &[u8; 32]) -> Registers
+pub(crate) fn unpack(state: &State) -> Registers
     ensures { λ r. ⌜ r ≡ unpacked (now (state .entry)) ⌝ }
 {
     let mode = modify_of(state[MODIFY_READ], state[SAVED_COLUMN]);
@@ -163,7 +166,7 @@ pub(crate) fn unpack(state: &[u8; 32]) -> Registers
 }
 
 // Whether a byte that is to be 0 or 1 is neither.
-fn odd_flag(state: &[u8; 32]) -> bool
+fn odd_flag(state: &State) -> bool
     ensures { λ t. ⌜ t ≡ oddFlag (now (state .entry)) ⌝ }
 {
     (1 < state[BIAS])
@@ -178,7 +181,7 @@ fn odd_flag(state: &[u8; 32]) -> bool
 }
 
 // Whether a spare byte is not 0.
-fn spare_used(state: &[u8; 32]) -> bool
+fn spare_used(state: &State) -> bool
     ensures { λ t. ⌜ t ≡ spareUsed (now (state .entry)) ⌝ }
 {
     (0 < state[19])
@@ -197,7 +200,7 @@ fn spare_used(state: &[u8; 32]) -> bool
 }
 
 // Whether the bytes stand for no registers. What is left to test then are the ranges of the registers, which the crates below do.
-pub(crate) fn is_unfit(state: &[u8; 32]) -> bool
+pub(crate) fn is_unfit(state: &State) -> bool
     ensures { λ t. ⌜ t ≡ unfit (now (state .entry)) ⌝ }
 {
     let odd = odd_flag(state);

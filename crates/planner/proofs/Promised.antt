@@ -10,7 +10,7 @@ use mathlib.Core.Bool.{Bool, false, cond, _||_}
 use mathlib.Core.Option.{Option, none, some}
 use mathlib.Core.List.{List, map}
 use native.Mathlib.Omega.{arith}
-use lib.ListN.{length}
+use lib.ListN.{length, length-append, length-map}
 use lib.Dec.{ltb, eqb}
 use borrow.Author.Tests.{ltb-true, ltb-false, lt-ltb, le-ltb, eqb-true, eqb-false}
 use Rattle.instructions.specs.Told.{Told, given}
@@ -250,6 +250,11 @@ is-given {s = s} {a = a} e f = record {
   bytes = f .bytes ∙ rw e;
   kinds-left = f .kinds-left ∙ rw e;
 }
+
+-- what stands in front of an output is not longer than it
+pub over-holds : (f : BusCycle → ℕ) (s : List BusCycle) (out : List ℕ) {left : List ℕ} → left ≡ over (map f s) out → length s ≤ length left
+unfolding over
+over-holds f s out e = rw (e, length-append) (omega (arith, length-map s f))
 
 long-enough : (s : List BusCycle) (out kinds : List ℕ) → length s ≤ length out → length s ≤ length kinds → tooShort s out kinds ≡ false
 unfolding tooShort

@@ -2,19 +2,14 @@
 -- Assumes nothing.
 use Prim.Native.Nat.{ℕ, _≤_}
 use mathlib.Core.Path.{_≡_, sym, subst, _∙_}
-use mathlib.Core.List.{List, map}
+use mathlib.Core.List.{List}
 use native.Mathlib.Omega.{arith}
-use lib.ListN.{length, length-append, length-map}
+use lib.ListN.{length}
 use Rattle.controller.specs.Run.{BusCycle}
-use Rattle.planner.specs.Sent.{byteOf, kindOf, over, IsUpdate}
+use Rattle.planner.specs.Sent.{byteOf, kindOf, IsUpdate}
 use Rattle.planner.specs.declared.count.Count.{Count}
 use Rattle.planner.specs.declared.count.Count.the-variants.{Bytes, Refused}
-use Rattle.planner.proofs.Promised.{Given, update-always}
-
--- what stands in front of an output is not longer than it
-over-holds : (f : BusCycle → ℕ) (s : List BusCycle) (out : List ℕ) {left : List ℕ} → left ≡ over (map f s) out → length s ≤ length left
-unfolding over
-over-holds f s out e = rw (e, length-append) (omega (arith, length-map s f))
+use Rattle.planner.proofs.Promised.{Given, update-always, over-holds}
 
 bytes-one : {m n : ℕ} → Bytes m ≡ Bytes n → m ≡ n
 bytes-one e = cc

@@ -1,13 +1,11 @@
 -- What a cycle does in a state in which the bus can be used: one law for every instruction byte, and one for a data write. Nothing
 -- is refused before the byte is looked at, and such a state is left.
 -- Assumes nothing.
-use Prim.Native.Nat.{ℕ, suc, _+_, _*_, _<_}
+use Prim.Native.Nat.{ℕ, _*_}
 use mathlib.Core.Path.{_≡_, _∙_, refl, ap, sym, subst}
-use mathlib.Core.Bool.{Bool, true, false, cond, not}
+use mathlib.Core.Bool.{false}
 use mathlib.Core.List.{List}
-use native.Mathlib.Omega.{arith}
 use lib.ListN.{length}
-use lib.Dec.{eqb}
 use borrow.Author.Tests.{eq-eqb}
 use Rattle.instructions.specs.Told.{given}
 use Rattle.instructions.specs.Numbers.{Sensible}
@@ -15,10 +13,10 @@ use Rattle.instructions.specs.Read.{readOf}
 use Rattle.instructions.specs.declared.numbers.Numbers.{Numbers}
 use Rattle.instructions.specs.declared.instruction.Instruction.{Instruction}
 use Rattle.instructions.proofs.Fits.{read-fits}
-use Rattle.controller.specs.Registers.{outside, Ranged}
+use Rattle.controller.specs.Registers.{Ranged}
 use Rattle.controller.specs.Execute.{executed}
-use Rattle.controller.specs.Memory.{stored, advanced}
-use Rattle.controller.specs.Cycle.{Outcome, done, instructed, written, malformed, heldLow, refusal, carried, kept, answer, memoryAfter}
+use Rattle.controller.specs.Memory.{stored}
+use Rattle.controller.specs.Cycle.{done, written, malformed, refusal, carried, kept, answer, memoryAfter}
 use Rattle.controller.specs.Run.{BusCycle}
 use Rattle.controller.specs.State.{State, state, afterBy, step, number, Restartable}
 use Rattle.controller.specs.declared.registers.Registers.{Registers}

@@ -12,7 +12,7 @@ use lib.ListN.{length, getD, set, length-set}
 use lib.Seq.{getD-set-same, getD-set-other}
 use lib.Dec.{T, ltb, eqb}
 use borrow.Author.Tests.{lt-ltb, le-ltb, ne-eqb, ltb-true}
-use Rattle.controller.specs.Memory.{cellOf, isCell, stored, loaded, advanced}
+use Rattle.controller.specs.Memory.{cellOf, isCell, stored, advanced}
 
 -- ---- what a byte shows
 

@@ -1,10 +1,9 @@
 -- The controller keeps the laws that layers above use, for any sensible numbers: a chip to update, and a chip to redraw. What ready
 -- and restartable mean of it is exactly what demand 3 supposes, by definition (specs/State.antt).
 -- Assumes nothing.
-use Prim.Native.Nat.{ℕ, suc, _+_, _*_, _/_, _%_, _≤_, _<_}
+use Prim.Native.Nat.{ℕ, _+_, _<_}
 use mathlib.Core.Path.{_≡_, _∙_, refl, ap, sym, subst}
-use mathlib.Core.Bool.{Bool, true, false, cond}
-use mathlib.Core.List.{List}
+use mathlib.Core.Bool.{Bool, cond}
 use native.Mathlib.Omega.{arith}
 use native.Mathlib.Numerals.{add-one}
 use Rattle.instructions.specs.Told.{given}
@@ -21,11 +20,10 @@ use Rattle.instructions.proofs.Fields.{field-given}
 use Rattle.instructions.proofs.ReadBack.{read-back}
 use Rattle.controller.specs.Registers.{column, withContrast, withIndicator, withIndicatorValue, withAwaited}
 use Rattle.controller.specs.Execute.{executed}
-use Rattle.controller.specs.Memory.{advanced, stored}
+use Rattle.controller.specs.Memory.{stored}
 use Rattle.controller.specs.Cycle.{written}
-use Rattle.controller.specs.Run.{BusCycle}
 use Rattle.controller.specs.State.{State, state, step, number, Restartable, Ready, placed, rest, settings, indicatorAwaited}
-use Rattle.controller.specs.Chip.{View, Chip, Restart, pageCycle, highCycle, lowCycle, dataCycle, nopCycle, offCycle, askCycle, contrastCycle, onPage, onColumn, withRest, wrote}
+use Rattle.controller.specs.Chip.{View, Chip, Restart, dataCycle, nopCycle, askCycle, onColumn, withRest, wrote}
 use Rattle.controller.specs.declared.registers.Registers.{Registers}
 use Rattle.controller.proofs.Cells.{advanced-below}
 use Rattle.controller.proofs.Acting.{acts, writes}

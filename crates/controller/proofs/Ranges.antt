@@ -1,7 +1,7 @@
 -- Every cycle keeps the registers in range, the memory's length, and, pin cycles aside, the pin.
 -- Assumes nothing.
-use Prim.Native.Nat.{ℕ, _+_, _*_, _%_, _≤_, _<_}
-use mathlib.Core.Path.{_≡_, _∙_, refl, ap, sym, subst}
+use Prim.Native.Nat.{ℕ, _+_, _*_, _≤_, _<_}
+use mathlib.Core.Path.{_≡_, refl, subst}
 use mathlib.Core.Bool.{Bool, true, false, cond, not, _||_}
 use mathlib.Core.Option.{Option, none, some}
 use mathlib.Core.List.{List}
@@ -10,7 +10,6 @@ use lib.ListN.{length}
 use lib.Dec.{T, ltb, leb, eqb}
 use borrow.Author.Tests.{le-ltb, lt-leb, ltb-true, ltb-false, leb-false, eqb-true}
 use Rattle.instructions.specs.Refusal.{wrongSize}
-use Rattle.instructions.specs.Told.{Told}
 use Rattle.instructions.specs.Numbers.{Sensible}
 use Rattle.instructions.specs.Read.{readOf}
 use Rattle.instructions.specs.declared.numbers.Numbers.{Numbers}

@@ -13,7 +13,6 @@ use lib.ListN.{length}
 use lib.Dec.{eqb}
 use borrow.Author.Tests.{eq-eqb, eqb-true}
 use Rattle.instructions.specs.Refusal.{pinLow}
-use Rattle.instructions.specs.Told.{given}
 use Rattle.instructions.specs.Numbers.{Sensible}
 use Rattle.instructions.specs.Read.{readOf}
 use Rattle.instructions.specs.declared.numbers.Numbers.{Numbers}
@@ -23,8 +22,8 @@ use Rattle.instructions.proofs.Fields.{field-given}
 use Rattle.instructions.proofs.Fits.{either}
 use Rattle.controller.specs.Registers.{outside, withModifyRead, withHolder, withPinLow, start}
 use Rattle.controller.specs.Execute.{executed}
-use Rattle.controller.specs.Memory.{stored, loaded, advanced}
-use Rattle.controller.specs.Cycle.{Outcome, done, dataRead, instructed, instructedBy, written, afterRead, refusal, carried, kept, answer, memoryAfter}
+use Rattle.controller.specs.Memory.{loaded, advanced}
+use Rattle.controller.specs.Cycle.{Outcome, dataRead, instructedBy, written, afterRead, refusal, carried, kept, answer, memoryAfter}
 use Rattle.controller.specs.Run.{BusCycle}
 use Rattle.controller.specs.Chip.{pageCycle, highCycle, lowCycle, dataCycle}
 use Rattle.controller.specs.State.{State, state, afterBy, step, number, run, Restartable, Ready, placed}
@@ -35,7 +34,7 @@ use Rattle.controller.specs.declared.registers.ModifyRead.the-variants.{
 use Rattle.controller.specs.declared.registers.Registers.{Registers}
 use Rattle.controller.proofs.Cells.{past-columns, stored-none, advanced-below, advanced-locked}
 use Rattle.controller.proofs.Ranges.{ranged, stays-ranged, ranges}
-use Rattle.controller.proofs.Acting.{carries, keeps, does, writes}
+use Rattle.controller.proofs.Acting.{carries, keeps, writes}
 use Rattle.controller.proofs.Chips.{obeys, still, written-ready}
 
 -- ---- what changes nothing

@@ -11,7 +11,7 @@ use lib.ListN.{length}
 use Rattle.instructions.specs.Numbers.{numbers0713}
 use Rattle.controller.specs.Registers.{outside, withAdc, start}
 use Rattle.controller.specs.Cycle.{outcome, status, carried, Cycled}
-use Rattle.controller.specs.State.{State, state, Restartable}
+use Rattle.controller.specs.State.{state, Restartable}
 use Rattle.controller.specs.declared.registers.Registers.{Registers}
 use Rattle.controller.specs.declared.cycle.Answer.{Answer}
 use Rattle.controller.proofs.Acting.{carries}

@@ -2,14 +2,12 @@
 -- And each number is given exactly if its line of document 01's table holds and none earlier in the order does.
 -- Assumes nothing.
 use Prim.Native.Nat.{ℕ, _*_, _<_}
-use mathlib.Core.Path.{_≡_, _∙_, refl, ap, sym, subst}
-use mathlib.Core.Logic.{_≢_}
+use mathlib.Core.Path.{_≡_, _∙_, refl, ap, sym}
 use mathlib.Core.Bool.{Bool, true, false, cond, not, _&&_}
 use mathlib.Core.Option.{Option, none, some}
 use mathlib.Core.List.{List}
-use native.Mathlib.Omega.{arith}
 use lib.ListN.{length}
-use lib.Dec.{T, eqb}
+use lib.Dec.{eqb}
 use Rattle.instructions.specs.Refusal.{wrongSize, outOfRange, pinLow, unassigned, wrongCycle}
 use Rattle.instructions.specs.Read.{readOf, assigned, nothingAwaited}
 use Rattle.instructions.specs.declared.numbers.Numbers.{Numbers}

@@ -10,7 +10,7 @@ use Rattle.instructions.specs.declared.numbers.Numbers.{Numbers}
 use Rattle.instructions.specs.declared.instruction.Awaited.{Awaited}
 use Rattle.instructions.specs.declared.instruction.Awaited.the-variants as awaited
 use Rattle.controller.specs.Registers.{column, withPage, withColumn, withHolder, withContrast, withIndicator, withIndicatorValue, withAwaited, outside}
-use Rattle.controller.specs.Cycle.{Outcome, answer, memoryAfter}
+use Rattle.controller.specs.Cycle.{answer, memoryAfter}
 use Rattle.controller.specs.Run.{BusCycle, runBy, numbersBy}
 use Rattle.controller.specs.declared.registers.Registers.{Registers}
 

@@ -5,7 +5,7 @@ ghost use Prim.Native.Nat.{_*_, _≤_};
 ghost use lib.ListN.{length};
 ghost use Rattle.instructions.specs.Numbers.{Sensible, numbers0713};
 ghost use Rattle.instructions.specs.Read.{readOf};
-ghost use Rattle.controller.specs.Cycle.{status, malformed, heldLow, refusal, written, afterRead, instructed, carried, kept, outcome, Cycled};
+ghost use Rattle.controller.specs.Cycle.{status, malformed, refusal, written, afterRead, instructed, carried, kept, outcome, Cycled};
 use crate::execute::execute;
 use crate::memory::advance;
 use crate::memory::load;

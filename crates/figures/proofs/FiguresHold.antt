@@ -1,6 +1,6 @@
 -- Document 01's figures marked P hold: each is computed from the definitions that the promises cite.
 -- Assumes nothing.
-use mathlib.Core.Path.{_≡_, refl}
+use mathlib.Core.Path.{refl}
 use Rattle.instructions.specs.Read.{classOf, roomIn, readBy, readFirst}
 use Rattle.controller.specs.Registers.{outside}
 use Rattle.controller.specs.Memory.{cellOf, isCell, stored, advanced}

@@ -6,7 +6,7 @@ use mathlib.Core.Path.{_≡_, _∙_, refl, ap, sym, subst}
 use mathlib.Core.Logic.{_≢_, _⊎_, inl, inr}
 use mathlib.Core.Bool.{Bool, true, false, cond, not, _||_}
 use mathlib.Core.List.{List}
-use mathlib.Core.Option.{Option, none, some}
+use mathlib.Core.Option.{none}
 use native.Mathlib.Omega.{arith}
 use lib.ListN.{length}
 use lib.Dec.{ltb, eqb}
@@ -21,7 +21,6 @@ use Rattle.glass.specs.Power.{powerOf, toldPower, IsPower}
 use Rattle.glass.specs.Voltage.{numerator, toldVoltage, IsVoltage}
 use Rattle.glass.specs.declared.frame.Shown.{Shown}
 use Rattle.glass.specs.declared.frame.Shown.the-variants as shown
-use Rattle.glass.specs.declared.power.PowerState.{PowerState}
 use Rattle.glass.specs.declared.power.Powered.{Powered}
 use Rattle.glass.specs.declared.power.Powered.the-variants as powered
 use Rattle.glass.specs.declared.voltage.Voltage.{Voltage}

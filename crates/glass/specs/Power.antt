@@ -1,7 +1,7 @@
 -- The power state.
 -- Assumes nothing.
 use mathlib.Core.Path.{_≡_}
-use mathlib.Core.Bool.{Bool, cond, not, _&&_}
+use mathlib.Core.Bool.{cond, not, _&&_}
 use Rattle.instructions.specs.Refusal.{outOfRange}
 use Rattle.instructions.specs.Told.{Told, given, refused}
 use Rattle.instructions.specs.declared.numbers.Numbers.{Numbers}

@@ -3,12 +3,11 @@
 use Prim.Native.Nat.{ℕ, _+_, _≤_, _<_}
 use mathlib.Core.Path.{_≡_, refl, ap}
 use mathlib.Core.Bool.{Bool, true, false, cond}
-use mathlib.Core.Option.{some}
 use native.Mathlib.Omega.{arith}
 use lib.Dec.{ltb}
-use borrow.Author.Tests.{lt-ltb, le-ltb, ltb-true, ltb-false}
+use borrow.Author.Tests.{lt-ltb, le-ltb, ltb-true}
 use Rattle.instructions.specs.Refusal.{outsideField}
-use Rattle.instructions.specs.Told.{Told, given, refused}
+use Rattle.instructions.specs.Told.{given, refused}
 use Rattle.instructions.specs.Write.{fieldOf}
 use Rattle.instructions.proofs.Telling.{given-one}
 

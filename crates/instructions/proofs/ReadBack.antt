@@ -1,14 +1,14 @@
 -- Each instruction written as a byte is read as that instruction, where its byte is awaited.
 -- Assumes nothing.
-use Prim.Native.Nat.{ℕ, _+_, _-_, _%_, _≤_, _<_}
+use Prim.Native.Nat.{ℕ, _+_, _-_, _%_, _<_}
 use mathlib.Core.Path.{_≡_, _∙_, refl, ap, sym, subst}
-use mathlib.Core.Bool.{Bool, true, false}
+use mathlib.Core.Bool.{true, false}
 use native.Mathlib.Omega.{arith}
 use lib.Dec.{T}
 use borrow.Author.Tests.{lt-ltb}
 use Rattle.instructions.specs.Told.{given}
 use Rattle.instructions.specs.Numbers.{Sensible}
-use Rattle.instructions.specs.Write.{fieldOf, flagOf, writeOf}
+use Rattle.instructions.specs.Write.{flagOf, writeOf}
 use Rattle.instructions.specs.Read.{classOf, roomIn, readBy, readFirst, readOf, awaitedFor}
 use Rattle.instructions.specs.declared.numbers.Numbers.{Numbers}
 use Rattle.instructions.specs.declared.instruction.Instruction.{Instruction}

@@ -1,14 +1,13 @@
 -- What reader and writer promise fixes their answers: what is told of an answer tells all answers apart, since it has an inverse.
 -- And each number is given exactly when its line of document 01's table holds.
 -- Assumes nothing.
-use Prim.Native.Nat.{ℕ, _+_, _≤_, _<_}
+use Prim.Native.Nat.{ℕ, _+_, _<_}
 use mathlib.Core.Path.{_≡_, _∙_, refl, ap, sym, subst}
-use mathlib.Core.Logic.{_≢_}
 use mathlib.Core.Bool.{Bool, true, false, cond, not, _&&_}
 use mathlib.Core.Option.{Option, none, some}
 use lib.Dec.{T, ltb, eqb, eqb→eq}
 use Rattle.instructions.specs.Refusal.{unassigned, outsideField}
-use Rattle.instructions.specs.Told.{Told, given, refused}
+use Rattle.instructions.specs.Told.{given, refused}
 use Rattle.instructions.specs.Write.{fieldOf, flagOf, writeOf, toldWriting, IsWritten}
 use Rattle.instructions.specs.Read.{classOf, readBy, readFirst, readOf, toldReading, assigned, IsRead}
 use Rattle.instructions.specs.declared.numbers.Numbers.{Numbers}

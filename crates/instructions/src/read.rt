@@ -1,7 +1,7 @@
 // The reader: one byte, with what is awaited.
 ghost use mathlib.Core.Path.{_≡_};
 ghost use Rattle.instructions.specs.Numbers.{numbers0713};
-ghost use Rattle.instructions.specs.Read.{classOf, roomIn, readBy, readOf, toldReading, IsRead};
+ghost use Rattle.instructions.specs.Read.{classOf, roomIn, readBy, toldReading, IsRead};
 use crate::instruction::Awaited;
 use crate::instruction::Instruction;
 use crate::numbers::Numbers;

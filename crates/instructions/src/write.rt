@@ -1,9 +1,8 @@
 // The writer: one instruction, as one byte with its free bits 0.
 ghost use mathlib.Core.Path.{_≡_};
-ghost use mathlib.Core.Bool.{cond};
 ghost use Prim.Native.Nat.{_+_, _≤_};
 ghost use Rattle.instructions.specs.Numbers.{numbers0713, Sensible};
-ghost use Rattle.instructions.specs.Write.{fieldOf, flagOf, writeOf, toldWriting, IsWritten};
+ghost use Rattle.instructions.specs.Write.{fieldOf, flagOf, toldWriting, IsWritten};
 use crate::instruction::Instruction;
 use crate::numbers::Numbers;
 use crate::numbers::ks0713;

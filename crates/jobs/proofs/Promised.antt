@@ -5,21 +5,19 @@ use Prim.Native.Nat.{ℕ, zero, suc, _+_, _≤_, _<_}
 use mathlib.Core.Path.{_≡_, refl, sym, ap, subst, _∙_}
 use mathlib.Core.Logic.{_≢_, _⊎_, inl, inr, ⊎-elim}
 use mathlib.Core.Bool.{Bool, true, false, cond, _||_}
-use mathlib.Core.Option.{Option, none, some}
 use mathlib.Core.List.{List, _++_}
 use native.Mathlib.Omega.{arith}
 use borrow.Author.Tests.{ltb-true, ltb-false, lt-ltb, le-ltb}
 use lib.Dec.{T, ltb}
 use lib.ListN.{length, drop}
 use Rattle.instructions.specs.Refusal.{shortOutput, shortJob, wrongHeader, wrongCycle}
-use Rattle.instructions.specs.Told.{Told, refused}
+use Rattle.instructions.specs.Told.{refused}
 use Rattle.instructions.proofs.Telling.{apart, answerOf, not-given}
 use Rattle.controller.specs.Cycle.{malformed}
 use Rattle.streams.proofs.Cases.{split, less}
 use Rattle.planner.proofs.Exactly.{Exactly, then, both, same-number, here, past, nowhere}
 use Rattle.jobs.specs.Header.{wordAt, cycleAt, wrongCycles, headerOf, toldHeader, IsHeader}
 use Rattle.jobs.specs.Play.{textOf, longest, toldPlayed, IsPlayed}
-use Rattle.jobs.specs.declared.header.Job.{Job}
 use Rattle.jobs.specs.declared.header.Header.{Header}
 use Rattle.jobs.specs.declared.header.Header.the-variants as header
 use Rattle.jobs.specs.declared.play.Played.{Played}

@@ -1,38 +1,31 @@
 -- Demand 3 holds, about plain registers, the controller's own run, and the bytes that the calls put into their outputs: the
 -- streams' theorems at the KS0713, where its laws (controller, Chips) meet them.
 -- Assumes nothing.
-use Prim.Native.Nat.{ℕ, zero, suc, _+_, _*_, _≤_, _<_}
+use Prim.Native.Nat.{ℕ, _+_, _≤_, _<_}
 use mathlib.Core.Path.{_≡_, _∙_, refl, ap, sym, subst}
 use mathlib.Core.Bool.{Bool, true, false, cond}
-use mathlib.Core.Option.{none}
 use mathlib.Core.List.{List, [], _∷_, _++_, map}
 use native.Mathlib.Omega.{arith}
 use lib.Dec.{lit≤, ltb, eqb}
 use borrow.Author.Tests.{eqb-true, ltb-false}
-use lib.ListN.{length, take, drop, replicate}
+use lib.ListN.{length, take, drop}
 use Rattle.instructions.specs.Refusal.{wrongSize, outsideField, shortOutput}
-use Rattle.instructions.specs.Told.{given, refused}
-use Rattle.instructions.specs.Numbers.{numbers0713}
-use Rattle.instructions.specs.declared.instruction.Awaited.{Awaited}
+use Rattle.instructions.specs.Told.{given}
 use Rattle.instructions.specs.declared.instruction.Awaited.the-variants as awaited
 use Rattle.instructions.proofs.Telling.{given-one, not-given}
 use Rattle.controller.specs.Run.{BusCycle}
-use Rattle.controller.specs.State.{State, state, run, numbers, Ready, Restartable, placed, rest, settings}
+use Rattle.controller.specs.State.{State, state, rest, settings}
 use Rattle.controller.specs.declared.registers.Registers.{Registers}
-use Rattle.controller.proofs.Chips.{chip0713, restart0713, viewOf, moved, redrawn}
-use Rattle.streams.specs.Picture.{shown, Same, Between}
-use Rattle.streams.specs.Stretch.{Stretch, OfKind, emit}
-use Rattle.streams.specs.Update.{update, updateStream}
-use Rattle.streams.specs.Length.{updateLength}
-use Rattle.streams.specs.Redraw.{redraw, redrawStream}
-use Rattle.streams.specs.Paint.{paint, drawnAll}
-use Rattle.streams.specs.Demand.{Recorded, Restarts, Leaves, Stopped, Updated, Cut, Redrawn}
+use Rattle.controller.proofs.Chips.{chip0713, restart0713, moved, redrawn}
+use Rattle.streams.specs.Update.{updateStream}
+use Rattle.streams.specs.Redraw.{redrawStream}
+use Rattle.streams.specs.Demand.{Recorded, Restarts}
 use Rattle.streams.proofs.Length.{update-length, update-most, redraw-length}
 use Rattle.streams.proofs.Updating.{update-right, update-least, update-cut, cut-accepted}
 use Rattle.streams.proofs.Redrawing.{redraw-right, redraw-cut}
 use Rattle.planner.specs.Pictures.{misfit}
 use Rattle.planner.specs.Sent.{kindOf, byteOf, tooShort, over, Sent, redrawRefusal, IsUpdate, IsRedraw}
-use Rattle.planner.specs.Demand3.{PinHigh, Holding, played, Accepted, pairs, ended, Updates, redrawnFrom, Redraws}
+use Rattle.planner.specs.Demand3.{PinHigh, Holding, played, pairs, Updates, Redraws}
 use Rattle.planner.specs.declared.count.Count.the-variants.{Bytes}
 
 -- ---- the premises are the chip's own

@@ -13,7 +13,7 @@ use native.Mathlib.Omega.{arith}
 use lib.ListN.{length, length-append, length-map}
 use lib.Dec.{ltb, eqb}
 use borrow.Author.Tests.{ltb-true, ltb-false, lt-ltb, le-ltb, eqb-true, eqb-false}
-use Rattle.instructions.specs.Told.{Told, given}
+use Rattle.instructions.specs.Told.{given}
 use Rattle.instructions.proofs.Telling.{apart, answerOf}
 use Rattle.controller.specs.Run.{BusCycle}
 use Rattle.streams.specs.Picture.{shown, Same}

@@ -1,10 +1,10 @@
 -- What document 01 wants shut out, shut out by the promises alone: a call that refuses everything, a redraw that does nothing, a
 -- made-up length.
 -- Assumes nothing.
-use Prim.Native.Nat.{ℕ, _+_, _*_, _≤_}
+use Prim.Native.Nat.{ℕ, _≤_}
 use mathlib.Core.Path.{_≡_, _∙_, refl, ap, sym}
 use mathlib.Core.Bool.{Bool, true, false, cond, _||_}
-use mathlib.Core.List.{List, _++_, map}
+use mathlib.Core.List.{List, map}
 use native.Mathlib.Omega.{arith}
 use lib.Dec.{eqb}
 use lib.ListN.{length, getD}
@@ -12,14 +12,12 @@ use Rattle.instructions.specs.Refusal.{wrongSize}
 use Rattle.instructions.specs.Told.{given, refused}
 use Rattle.instructions.proofs.Telling.{given-one, not-given}
 use Rattle.controller.specs.Run.{BusCycle}
-use Rattle.streams.specs.Update.{updateStream}
 use Rattle.streams.specs.Length.{updateLength}
 use Rattle.streams.proofs.Length.{update-length}
 use Rattle.streams.proofs.Walking.{redraw-walk}
 use Rattle.planner.specs.Pictures.{misfit}
 use Rattle.planner.specs.Count.{IsLength}
 use Rattle.planner.specs.Sent.{byteOf, over, Sent, IsUpdate, IsRedraw}
-use Rattle.planner.specs.declared.count.Count.{Count}
 use Rattle.planner.specs.declared.count.Count.the-variants.{Bytes, Refused}
 use Rattle.planner.proofs.Exactly.{RightSize}
 use Rattle.planner.proofs.Promised.{update-always, redraw-always}

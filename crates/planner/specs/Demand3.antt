@@ -1,6 +1,6 @@
 -- Demand 3 in plain words: registers, a memory, the controller's own run, and the bytes that the calls put into their outputs.
 -- Assumes nothing.
-use Prim.Native.Nat.{ℕ, zero, suc, _+_, _*_, _≤_}
+use Prim.Native.Nat.{ℕ, zero, suc, _≤_}
 use mathlib.Core.Path.{_≡_}
 use mathlib.Core.Bool.{false, cond}
 use mathlib.Core.Option.{none}

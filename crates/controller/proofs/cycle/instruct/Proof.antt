@@ -1,8 +1,6 @@
 -- `controller::cycle::instruct` meets its contract: by what the byte was read as.
 -- Assumes nothing.
-use mathlib.Core.Path.{ap}
 use borrow.Author.Needs.{needs}
-use Rattle.controller.specs.Cycle.{instructed}
 use Rattle.controller.proofs.cycle.instruct.Statement.{statement}
 use Rattle.controller.proofs.cycle.instruct.Tie as tie
 

@@ -1,6 +1,5 @@
 -- `instructions::read::read_by` meets its contract: each arm of the match is a row of the definition.
 -- Assumes nothing.
-use mathlib.Core.Path.{ap}
 use borrow.Author.Needs.{needs}
 use Rattle.instructions.specs.Read.{readBy}
 use Rattle.instructions.proofs.Tests.{tests}

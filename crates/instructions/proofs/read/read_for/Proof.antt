@@ -1,6 +1,5 @@
 -- `instructions::read::read_for` meets its contract, by what is awaited.
 -- Assumes nothing.
-use mathlib.Core.Path.{_∙_, ap}
 use borrow.Author.Needs.{needs}
 use Rattle.instructions.specs.Read.{readFirst}
 use Rattle.instructions.proofs.read.read_for.Statement.{statement}

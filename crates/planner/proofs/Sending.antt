@@ -22,7 +22,7 @@ use Rattle.streams.proofs.Length.{update-length, redraw-length}
 use Rattle.streams.proofs.Walking.{update-walk, redraw-walk}
 use Rattle.planner.specs.Pictures.{misfit}
 use Rattle.planner.specs.Sent.{byteOf, kindOf, tooShort, Sent, updateRefusal, redrawRefusal, IsUpdate, IsRedraw}
-use Rattle.planner.specs.Output.{Room, Wrote}
+use Rattle.planner.specs.Output.{shorter, Room, Wrote}
 use Rattle.planner.specs.declared.count.Count.the-variants.{Bytes, Refused}
 use Rattle.planner.proofs.Showing.{or-left, or-right}
 use Rattle.planner.proofs.Writing.{put-over}
@@ -41,8 +41,15 @@ sent-given number n s out kinds e w = record {
 }
 
 -- the code's test of the two outputs
-abbrev pub short : List ℕ → List ℕ → ℕ → Bool
-short out kinds need = ltb (length out) need || ltb (length kinds) need
+abbrev short : List ℕ → List ℕ → ℕ → Bool
+short out kinds need = shorter (length out) (length kinds) need
+
+-- what is long enough for more is long enough
+pub still-long : (out kinds most need : ℕ) → need ≤ most → shorter out kinds most ≡ false → shorter out kinds need ≡ false
+still-long out kinds most need l h =
+    let o = ltb-false out most (or-left (ltb out most) (ltb kinds most) h) in
+    let k = ltb-false kinds most (or-right (ltb out most) (ltb kinds most) h) in
+    rw (le-ltb out need (omega arith), le-ltb kinds need (omega arith))
 
 module _ (s : List BusCycle) (out kinds : List ℕ) (need : ℕ) (known : need ≡ length s) where
   short-is : {t : Bool} → short out kinds need ≡ t → tooShort s out kinds ≡ t
@@ -62,22 +69,22 @@ module _ (W : ℕ) (r w out kinds : List ℕ) where
   unfolding updateRefusal
   update-misfit e = sent-refused _ 1 (updateStream W r w) out kinds (rw e) refl
 
-  module _ (need : ℕ) (fit : (misfit W r || misfit W w) ≡ false) (known : need ≡ updateLength W r w) where
-    exact : need ≡ length (updateStream W r w)
-    exact = known ∙ sym (update-length W r w)
+  module _ (fit : (misfit W r || misfit W w) ≡ false) where
+    exact : updateLength W r w ≡ length (updateStream W r w)
+    exact = sym (update-length W r w)
 
-    pub update-short : short out kinds need ≡ true → IsUpdate W r w out kinds (Refused 5) out kinds
+    pub update-short : short out kinds (updateLength W r w) ≡ true → IsUpdate W r w out kinds (Refused 5) out kinds
     unfolding updateRefusal
-    update-short h = sent-refused _ 5 (updateStream W r w) out kinds (rw (fit, short-is (updateStream W r w) out kinds need exact h)) refl
+    update-short h = sent-refused _ 5 (updateStream W r w) out kinds (rw (fit, short-is (updateStream W r w) out kinds _ exact h)) refl
 
-    pub update-room : short out kinds need ≡ false → Room (walkPages W r w 0 9) out kinds 0
-    update-room h = rw (update-walk W r w) at (room-is (updateStream W r w) out kinds need exact h)
+    pub update-room : short out kinds (updateLength W r w) ≡ false → Room (walkPages W r w 0 9) out kinds 0
+    update-room h = rw (update-walk W r w) at (room-is (updateStream W r w) out kinds _ exact h)
 
-    pub update-given : {out′ kinds′ : List ℕ} {n : ℕ} → short out kinds need ≡ false → Wrote (walkPages W r w 0 9) out kinds 0 out′ kinds′ n
-        → IsUpdate W r w out kinds (Bytes n) out′ kinds′
+    pub update-given : {out′ kinds′ : List ℕ} {n : ℕ} → short out kinds (updateLength W r w) ≡ false
+        → Wrote (walkPages W r w 0 9) out kinds 0 out′ kinds′ n → IsUpdate W r w out kinds (Bytes n) out′ kinds′
     unfolding updateRefusal
     update-given {n = n} h v =
-        sent-given _ n (updateStream W r w) out kinds (rw (fit, short-is (updateStream W r w) out kinds need exact h)) (rw (update-walk W r w) v)
+        sent-given _ n (updateStream W r w) out kinds (rw (fit, short-is (updateStream W r w) out kinds _ exact h)) (rw (update-walk W r w) v)
 
 -- ---- the redraw
 

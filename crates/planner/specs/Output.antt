@@ -2,9 +2,10 @@
 -- Assumes nothing.
 use Prim.Native.Nat.{ℕ, _+_, _*_, _≤_}
 use mathlib.Core.Path.{_≡_}
-use mathlib.Core.Bool.{Bool, cond}
+use mathlib.Core.Bool.{Bool, cond, _||_}
 use mathlib.Core.List.{List, [], _∷_, _++_, map}
 use lib.ListN.{length, take, drop}
+use lib.Dec.{ltb}
 use Rattle.controller.specs.Run.{BusCycle}
 use Rattle.controller.specs.Chip.{pageCycle, dataCycle}
 use Rattle.streams.specs.Picture.{differs}
@@ -21,6 +22,10 @@ pub record Fits (W : ℕ) (picture : List ℕ) : Type 0 where
 -- d with s put in from index at
 unfoldable pub put : List ℕ → ℕ → List ℕ → List ℕ
 put d at s = take at d ++ s ++ drop (at + length s) d
+
+-- an output of a length is shorter than it needs to be
+abbrev pub shorter : ℕ → ℕ → ℕ → Bool
+shorter out kinds need = ltb out need || ltb kinds need
 
 -- both outputs have room for s from index at
 pub record Room (s : List BusCycle) (out kinds : List ℕ) (at : ℕ) : Type 0 where

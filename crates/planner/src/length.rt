@@ -5,28 +5,29 @@ use crate::picture::misfit;
 use instructions::numbers::ks0713;
 use instructions::refusal::WRONG_SIZE;
 ghost use mathlib.Core.Path.{_≡_};
-ghost use Prim.Native.Nat.{_+_, _≤_, _<_, min};
+ghost use Prim.Native.Nat.{_+_, _-_, _≤_, _<_, min};
 ghost use Rattle.streams.specs.Picture.{differs};
 ghost use Rattle.streams.specs.Length.{pageLength, updateLength};
 ghost use Rattle.streams.specs.Tally.{Counted};
 ghost use Rattle.planner.specs.Pictures.{Pictures};
 ghost use Rattle.planner.specs.Count.{IsLength};
 
-// A page's bytes so far, and the equal columns since the last differing one.
+// A page's bytes so far without its page byte, and the column from which a new stretch costs no
+// more than going on: at first 0, so that the first differing column starts one.
 struct Tally {
     bytes: usize,
-    gap: usize,
+    anew: usize,
 }
 
-// What a gap between two differing columns costs.
+// What a gap costs, or the two column bytes of a new stretch.
 fn gap_cost(gap: usize) -> usize
     ensures { λ r. ⌜ r ≡ min gap 2 ⌝ }
 {
     if gap < 2 { gap } else { 2 }
 }
 
-// One column more. The first that differs costs the page byte, two column bytes and its own byte,
-// a further one its own byte and min(gap, 2).
+// One column more. One that differs costs its own byte, and min(gap, 2) for the equal columns since
+// the last one.
 fn count_column(
     recorded: &[u8],
     wanted: &[u8],
@@ -35,27 +36,19 @@ fn count_column(
     column: usize,
     tally: Tally,
 ) -> Tally
-    requires { ⌜ Pictures width (now recorded) (now wanted) × (page < 9) × (column < width) × (tally .gap ≤ column)
-        × Counted (differs width (now recorded) (now wanted) page) width (tally .bytes) (tally .gap) column ⌝ }
-    ensures { λ r. ⌜ (r .gap ≤ column + 1)
-        × Counted (differs width (now (recorded .entry)) (now (wanted .entry)) page) width (r .bytes) (r .gap) (column + 1) ⌝ }
+    requires { ⌜ Pictures width (now recorded) (now wanted) × (page < 9) × (column < width) × (tally .anew ≤ column + 2)
+        × Counted (differs width (now recorded) (now wanted) page) width (tally .bytes) (column + 2 - tally .anew) column ⌝ }
+    ensures { λ r. ⌜ (r .anew ≤ column + 1 + 2)
+        × Counted (differs width (now (recorded .entry)) (now (wanted .entry)) page) width (r .bytes) (column + 1 + 2 - r .anew) (column + 1) ⌝ }
 {
-    let bytes = tally.bytes;
-    let gap = tally.gap;
     if differ(recorded, wanted, width, page, column) {
-        if bytes == 0 {
-            return Tally { bytes: 4, gap: 0 };
-        }
-        let between = gap_cost(gap);
+        let between = gap_cost(column + 2 - tally.anew);
         return Tally {
-            bytes: bytes + 1 + between,
-            gap: 0,
+            bytes: tally.bytes + 1 + between,
+            anew: column + 3,
         };
     }
-    Tally {
-        bytes,
-        gap: gap + 1,
-    }
+    tally
 }
 
 // The bytes of one page's work.
@@ -63,13 +56,16 @@ fn page_length(recorded: &[u8], wanted: &[u8], width: usize, page: usize) -> usi
     requires { ⌜ Pictures width (now recorded) (now wanted) × (page < 9) ⌝ }
     ensures { λ r. ⌜ r ≡ pageLength (differs width (now (recorded .entry)) (now (wanted .entry)) page) width ⌝ }
 {
-    let mut tally = Tally { bytes: 0, gap: 0 };
+    let mut tally = Tally { bytes: 0, anew: 0 };
     let mut column = 0;
     while column < width {
         tally = count_column(recorded, wanted, width, page, column, tally);
         column += 1;
     }
-    tally.bytes
+    if tally.bytes == 0 {
+        return 0;
+    }
+    tally.bytes + 1
 }
 
 // The bytes of all nine pages.

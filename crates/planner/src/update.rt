@@ -16,9 +16,10 @@ ghost use mathlib.Core.Path.{_≡_};
 ghost use Prim.Native.Nat.{_+_, _≤_, _<_};
 ghost use mathlib.Core.Bool.{cond, _||_, false};
 ghost use Rattle.streams.specs.Picture.{differs};
+ghost use Rattle.streams.specs.Length.{updateLength};
 ghost use Rattle.streams.specs.Walk.{lead, walk, walkPages};
 ghost use Rattle.planner.specs.Pictures.{Pictures};
-ghost use Rattle.planner.specs.Output.{Fits, Room, Wrote, columnPiece};
+ghost use Rattle.planner.specs.Output.{Fits, Room, Wrote, columnPiece, shorter};
 ghost use Rattle.planner.specs.Sent.{IsUpdate};
 
 // Where the next cycle goes, whether this page's byte is out, and the column after the last byte.
@@ -136,6 +137,20 @@ fn update_pages(
     at
 }
 
+// Whether an output of a length is shorter than the update. The update's length is counted only
+// where one is shorter than the longest update.
+fn too_short(recorded: &[u8], wanted: &[u8], width: usize, out: usize, kinds: usize) -> bool
+    requires { ⌜ Pictures width (now recorded) (now wanted) ⌝ }
+    ensures { λ t. ⌜ t ≡ shorter out kinds (updateLength width (now (recorded .entry)) (now (wanted .entry))) ⌝ }
+{
+    let most = 9 * (width + 3);
+    if (out < most) | (kinds < most) {
+        let need = pages_length(recorded, wanted, width);
+        return (out < need) | (kinds < need);
+    }
+    false
+}
+
 // The refusals in their order, then the bytes.
 fn update_for(
     recorded: &[u8],
@@ -150,8 +165,7 @@ fn update_for(
     if misfit(recorded, width) | misfit(wanted, width) {
         return Count::Refused(WRONG_SIZE);
     }
-    let need = pages_length(recorded, wanted, width);
-    if (out.len() < need) | (kinds.len() < need) {
+    if too_short(recorded, wanted, width, out.len(), kinds.len()) {
         return Count::Refused(SHORT_OUTPUT);
     }
     Count::Bytes(update_pages(recorded, wanted, width, out, kinds))

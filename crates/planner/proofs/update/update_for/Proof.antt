@@ -1,7 +1,7 @@
 -- `planner::update::update_for` meets its contract: refused with 1 or 5, else given.
 -- Assumes nothing.
 use borrow.Author.Needs.{needs}
-use Rattle.planner.proofs.Showing.{tested, both-fit}
+use Rattle.planner.proofs.Showing.{told, tested, both-fit}
 use Rattle.planner.proofs.Sending.{update-misfit, update-short, update-room, update-given}
 use Rattle.planner.proofs.update.update_for.Statement.{statement}
 use Rattle.planner.proofs.update.update_for.Tie as tie
@@ -15,18 +15,18 @@ update-for-spec =
     (λ c. update-misfit _ _ _ _ _ (tested (c .before .before .misfit .ensures) (c .before .misfit2 .ensures) (c .if1 .taken)))
     (λ c κs. both-fit _ _ _ (c .before .before .before .before .before .before .before .pre) (tested (c .before .before .misfit .ensures) (c .before .misfit2 .ensures) (c .if1 .left)))
     (λ c.
-    let l = c .before in
-    let fit = tested (l .before .before .before .misfit .ensures) (l .before .before .misfit2 .ensures) (l .before .if1 .left) in
-    update-short _ _ _ _ _ _ fit (l .pages-length .ensures) (c .if2 .taken))
+    let t = c .before in
+    let fit = tested (t .before .before .before .misfit .ensures) (t .before .before .misfit2 .ensures) (t .before .if1 .left) in
+    update-short _ _ _ _ _ fit (told (t .too-short .ensures) (c .if2 .taken)))
     (λ c κs.
-    let l = c .before .before .before in
-    let s = l .before .before .before .before .before .before .before .before in
-    let fit = tested (l .before .before .before .misfit .ensures) (l .before .before .misfit2 .ensures) (l .before .if1 .left) in
-    (both-fit _ _ _ (s .pre) fit, update-room _ _ _ _ _ _ fit (l .pages-length .ensures) (c .before .before .if2 .left)))
+    let t = c .before .before .before in
+    let s = t .before .before .before .before .before .before .before .before in
+    let fit = tested (t .before .before .before .misfit .ensures) (t .before .before .misfit2 .ensures) (t .before .if1 .left) in
+    (both-fit _ _ _ (s .pre) fit, update-room _ _ _ _ _ fit (told (t .too-short .ensures) (c .before .before .if2 .left))))
     (λ c. search needs)
     (λ c. search needs)
     (λ c.
     let k = c .before .before .before .before in
-    let l = k .before .before .before .before in
-    let fit = tested (l .before .before .before .misfit .ensures) (l .before .before .misfit2 .ensures) (l .before .if1 .left) in
-    update-given _ _ _ _ _ _ fit (l .pages-length .ensures) (k .before .before .before .if2 .left) (k .update-pages .ensures)))
+    let t = k .before .before .before .before in
+    let fit = tested (t .before .before .before .misfit .ensures) (t .before .before .misfit2 .ensures) (t .before .if1 .left) in
+    update-given _ _ _ _ _ fit (told (t .too-short .ensures) (k .before .before .before .if2 .left)) (k .update-pages .ensures)))

@@ -1,0 +1,28 @@
+/* The three sides that are compared: the proved library, and the independent model twice, at -O2 and at -O3 with restrict. Each is
+   the same list of calls on the same buffers, so that a count or a time differs by the call alone. */
+#ifndef SIDES_H
+#define SIDES_H
+#include "model.h"
+#include "panel.h"
+
+enum { N = PANEL_PICTURE, ROOM = PANEL_REDRAW_LENGTH };
+
+/* what every call is given, and where it puts its answer */
+struct desk {
+    uint8_t recorded[N], wanted[N], memory[N], frame[N];
+    uint8_t out[ROOM], kinds[ROOM];
+    uint8_t state[PANEL_STATE];          /* the library's */
+    struct model_registers registers;    /* the model's */
+    uint8_t kind, value;                 /* one cycle */
+    uint8_t number, field, byte, read, found, power;
+    size_t count, page, column;
+    uint32_t numerator;
+};
+extern struct desk desk;
+
+enum call { UPDATE, LENGTH, FIRST, REDRAW, CYCLE, FRAME, READ, WRITE, POWER, V0, CALLS };
+
+struct side { const char *name; void (*call[CALLS])(void); };
+enum { OURS, O2, O3, SIDES };
+extern const struct side sides[SIDES];
+#endif

@@ -11,7 +11,7 @@ use lib.ListN.{length, take, drop, set, length-append, length-drop, length-map, 
 use lib.Seq.{length-take-le, set-split, take-at, drop-append-add, drop-drop}
 use Rattle.controller.specs.Run.{BusCycle}
 use Rattle.planner.specs.Sent.{byteOf, kindOf, over}
-use Rattle.planner.specs.Output.{put, Room, Wrote}
+use Rattle.planner.specs.Output.{put, Room, Wrote, twoCycles}
 
 -- ---- one output
 
@@ -98,6 +98,15 @@ module _ (s t : List BusCycle) {out kinds : List ℕ} {at : ℕ} where
         out-is = v .out-is ∙ next-put byteOf s t out out′ at n (w .ended) (w .out-is) (a .out-room);
         kinds-is = v .kinds-is ∙ next-put kindOf s t kinds kinds′ at n (w .ended) (w .kinds-is) (a .kinds-room);
       }
+
+-- two cycles, each output written by itself
+pub wrote-two : (out kinds : List ℕ) (at first second : ℕ) → Room (twoCycles first second) out kinds at
+    → Wrote (twoCycles first second) out kinds at (set (set out at first) (at + 1) second) (set (set kinds at 0) (at + 1) 0) (at + 2)
+wrote-two out kinds at first second r =
+    let one = wrote-one out kinds at 0 first (room-first ((0, first) ∷ []) ((0, second) ∷ []) r) in
+    let two = wrote-one _ _ (at + 1) 0 second (room-second ((0, first) ∷ []) ((0, second) ∷ []) r one) in
+    let both = wrote-both ((0, first) ∷ []) ((0, second) ∷ []) r one two in
+    record { ended = refl; out-is = both .out-is; kinds-is = both .kinds-is }
 
 -- ---- piece by piece
 

@@ -38,6 +38,10 @@ pub record Wrote (s : List BusCycle) (out kinds : List ℕ) (at : ℕ) (out′ k
   pub out-is : out′ ≡ put out at (map byteOf s)
   pub kinds-is : kinds′ ≡ put kinds at (map kindOf s)
 
+-- two instructions
+abbrev pub twoCycles : ℕ → ℕ → List BusCycle
+twoCycles first second = (0, first) ∷ (0, second) ∷ []
+
 -- what column c of page p sends in the update's walk
 unfoldable pub columnPiece : ℕ → List ℕ → List ℕ → ℕ → Bool → ℕ → ℕ → List BusCycle
 columnPiece W recorded wanted p sent next c = cond (differs W recorded wanted p c) (piece W wanted p sent next c) []

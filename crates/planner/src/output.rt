@@ -5,7 +5,7 @@ ghost use mathlib.Core.List.{[], _∷_, map};
 ghost use Rattle.controller.specs.Chip.{pageCycle, dataCycle};
 ghost use Rattle.streams.specs.Stretch.{columnBytes};
 ghost use Rattle.streams.specs.Update.{wantedBytes};
-ghost use Rattle.planner.specs.Output.{Fits, Room, Wrote};
+ghost use Rattle.planner.specs.Output.{Fits, Room, Wrote, twoCycles};
 
 // The instruction bytes of a stream; the page byte and the column bytes carry a value besides.
 const PAGE: u8 = 0xb0;
@@ -35,6 +35,19 @@ pub(crate) fn put(out: &mut [u8], kinds: &mut [u8], at: usize, kind: u8, byte: u
     at + 1
 }
 
+// Two instructions, from index `at` on. Each output is written by itself, so that the compiler can
+// join its bytes.
+pub(crate) fn put_two(out: &mut [u8], kinds: &mut [u8], at: usize, first: u8, second: u8) -> usize
+    requires { ⌜ Room (twoCycles first second) (now out) (now kinds) at ⌝ }
+    ensures { λ r. ⌜ Wrote (twoCycles first second) (now (out .entry)) (now (kinds .entry)) at (now (out .exit)) (now (kinds .exit)) r ⌝ }
+{
+    out[at] = first;
+    out[at + 1] = second;
+    kinds[at] = INSTRUCTION;
+    kinds[at + 1] = INSTRUCTION;
+    at + 2
+}
+
 // The two column bytes: 10 + high part, then 00 + low part.
 pub(crate) fn put_column(out: &mut [u8], kinds: &mut [u8], at: usize, column: usize) -> usize
     requires { ⌜ (column < 256) × Room (columnBytes column) (now out) (now kinds) at ⌝ }
@@ -42,8 +55,7 @@ pub(crate) fn put_column(out: &mut [u8], kinds: &mut [u8], at: usize, column: us
 {
     let high = COLUMN_HIGH + (column / 16) as u8;
     let low = COLUMN_LOW + (column % 16) as u8;
-    let next = put(out, kinds, at, INSTRUCTION, high);
-    put(out, kinds, next, INSTRUCTION, low)
+    put_two(out, kinds, at, high, low)
 }
 
 // The page byte, then the two column bytes.

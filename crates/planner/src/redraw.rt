@@ -2,10 +2,9 @@
 use crate::count::Count;
 use crate::output::CONTRAST_NEXT;
 use crate::output::INDICATOR_OFF;
-use crate::output::INSTRUCTION;
 use crate::output::NOP;
-use crate::output::put;
 use crate::output::put_address;
+use crate::output::put_two;
 use crate::output::put_wanted;
 use crate::picture::misfit;
 use instructions::numbers::ks0713;
@@ -24,10 +23,8 @@ fn put_opening(contrast: u8, out: &mut [u8], kinds: &mut [u8]) -> usize
     requires { ⌜ Room (opening contrast) (now out) (now kinds) 0 ⌝ }
     ensures { λ r. ⌜ Wrote (opening contrast) (now (out .entry)) (now (kinds .entry)) 0 (now (out .exit)) (now (kinds .exit)) r ⌝ }
 {
-    let off = put(out, kinds, 0, INSTRUCTION, NOP);
-    let ask = put(out, kinds, off, INSTRUCTION, INDICATOR_OFF);
-    let value = put(out, kinds, ask, INSTRUCTION, CONTRAST_NEXT);
-    put(out, kinds, value, INSTRUCTION, contrast)
+    let next = put_two(out, kinds, 0, NOP, INDICATOR_OFF);
+    put_two(out, kinds, next, CONTRAST_NEXT, contrast)
 }
 
 // A whole page as one stretch.

@@ -9,129 +9,127 @@ use instructions::instruction::Awaited;
 pub(crate) fn with_page(registers: Registers, page: u8) -> Registers
     ensures { λ n. ⌜ n ≡ withPage registers page ⌝ }
 {
-    let mut next = registers;
-    next.page = page;
-    next
+    Registers { page, ..registers }
 }
 
 pub(crate) fn with_column(registers: Registers, column: Column) -> Registers
     ensures { λ n. ⌜ n ≡ withColumn registers column ⌝ }
 {
-    let mut next = registers;
-    next.column = column;
-    next
+    Registers {
+        column,
+        ..registers
+    }
 }
 
 pub(crate) fn with_start_line(registers: Registers, start_line: u8) -> Registers
     ensures { λ n. ⌜ n ≡ withStartLine registers «start_line» ⌝ }
 {
-    let mut next = registers;
-    next.start_line = start_line;
-    next
+    Registers {
+        start_line,
+        ..registers
+    }
 }
 
 pub(crate) fn with_contrast(registers: Registers, contrast: u8) -> Registers
     ensures { λ n. ⌜ n ≡ withContrast registers contrast ⌝ }
 {
-    let mut next = registers;
-    next.contrast = contrast;
-    next
+    Registers {
+        contrast,
+        ..registers
+    }
 }
 
 pub(crate) fn with_resistor(registers: Registers, resistor: u8) -> Registers
     ensures { λ n. ⌜ n ≡ withResistor registers resistor ⌝ }
 {
-    let mut next = registers;
-    next.resistor = resistor;
-    next
+    Registers {
+        resistor,
+        ..registers
+    }
 }
 
 pub(crate) fn with_power(registers: Registers, power: u8) -> Registers
     ensures { λ n. ⌜ n ≡ withPower registers power ⌝ }
 {
-    let mut next = registers;
-    next.power = power;
-    next
+    Registers { power, ..registers }
 }
 
 pub(crate) fn with_bias(registers: Registers, bias: bool) -> Registers
     ensures { λ n. ⌜ n ≡ withBias registers bias ⌝ }
 {
-    let mut next = registers;
-    next.bias = bias;
-    next
+    Registers { bias, ..registers }
 }
 
 pub(crate) fn with_adc(registers: Registers, adc: bool) -> Registers
     ensures { λ n. ⌜ n ≡ withAdc registers adc ⌝ }
 {
-    let mut next = registers;
-    next.adc = adc;
-    next
+    Registers { adc, ..registers }
 }
 
 pub(crate) fn with_shl(registers: Registers, shl: bool) -> Registers
     ensures { λ n. ⌜ n ≡ withShl registers shl ⌝ }
 {
-    let mut next = registers;
-    next.shl = shl;
-    next
+    Registers { shl, ..registers }
 }
 
 pub(crate) fn with_reverse(registers: Registers, reverse: bool) -> Registers
     ensures { λ n. ⌜ n ≡ withReverse registers reverse ⌝ }
 {
-    let mut next = registers;
-    next.reverse = reverse;
-    next
+    Registers {
+        reverse,
+        ..registers
+    }
 }
 
 pub(crate) fn with_entire(registers: Registers, entire: bool) -> Registers
     ensures { λ n. ⌜ n ≡ withEntire registers entire ⌝ }
 {
-    let mut next = registers;
-    next.entire = entire;
-    next
+    Registers {
+        entire,
+        ..registers
+    }
 }
 
 pub(crate) fn with_on(registers: Registers, on: bool) -> Registers
     ensures { λ n. ⌜ n ≡ withOn registers on ⌝ }
 {
-    let mut next = registers;
-    next.on = on;
-    next
+    Registers { on, ..registers }
 }
 
 pub(crate) fn with_indicator(registers: Registers, indicator: bool) -> Registers
     ensures { λ n. ⌜ n ≡ withIndicator registers indicator ⌝ }
 {
-    let mut next = registers;
-    next.indicator = indicator;
-    next
+    Registers {
+        indicator,
+        ..registers
+    }
 }
 
 pub(crate) fn with_indicator_value(registers: Registers, indicator_value: u8) -> Registers
     ensures { λ n. ⌜ n ≡ withIndicatorValue registers «indicator_value» ⌝ }
 {
-    let mut next = registers;
-    next.indicator_value = indicator_value;
-    next
+    Registers {
+        indicator_value,
+        ..registers
+    }
 }
 
 pub(crate) fn with_holder(registers: Registers, holder: u8) -> Registers
     ensures { λ n. ⌜ n ≡ withHolder registers holder ⌝ }
 {
-    let mut next = registers;
-    next.holder = holder;
-    next
+    Registers {
+        holder,
+        ..registers
+    }
 }
 
 pub(crate) fn with_pin_low(registers: Registers, pin_low: bool) -> Registers
     ensures { λ n. ⌜ n ≡ withPinLow registers «pin_low» ⌝ }
 {
-    let mut next = registers;
-    next.pin_low = pin_low;
-    next
+    Registers {
+        pin_low,
+        ..registers
+    }
 }
 
 // A field that is an enum is not stored to: the struct is written anew.

@@ -1,50 +1,11 @@
 // The player: reads one job from standard input, plays it, and writes its text to standard output.
+use input::read_all;
 use jobs::play::Played;
 use jobs::play::play;
 ghost use mathlib.Core.Path.{_≡_};
-ghost use Prim.Native.Nat.{_+_, _≤_};
+ghost use Prim.Native.Nat.{_≤_};
 ghost use lib.ListN.{length, take};
 ghost use Rattle.jobs.specs.Play.{longest, textOf};
-
-// How many bytes came, and whether a read failed.
-struct Input {
-    count: usize,
-    failed: bool,
-}
-
-// One read into the buffer, from a place on.
-fn read_some(buffer: &mut [u8], from: usize) -> Input
-    requires { ⌜ from ≤ length (now buffer) ⌝ }
-    ensures { λ r. ⌜ from + r .count ≤ length (now (buffer .exit)) ⌝ }
-{
-    let rest = &mut buffer[from..];
-    let got = libc::read(libc::STDIN_FILENO, rest);
-    Input {
-        count: io::count(got, rest),
-        failed: got < 0,
-    }
-}
-
-// Reads standard input to its end, or until the buffer is full.
-fn read_all(buffer: &mut [u8]) -> Input
-    ensures { λ r. ⌜ r .count ≤ length (now (buffer .exit)) ⌝ }
-{
-    let mut n = 0;
-    while n < buffer.len() {
-        let input = read_some(buffer, n);
-        if input.failed {
-            return input;
-        }
-        if input.count == 0 {
-            break;
-        }
-        n += input.count;
-    }
-    Input {
-        count: n,
-        failed: false,
-    }
-}
 
 // Room for the text of any file. It stands in a function of its own, so that its bytes are not computed where it is used.
 fn room() -> [u8; 210000]

@@ -1,19 +1,19 @@
 // The viewer: reads one job from standard input, and writes what its argument asks for: the lit frame after the job's cycles,
 // drawn or as a PBM picture, or the update to the wanted picture.
+mod argument;
 mod draw;
-mod input;
 mod play;
 mod stream;
 
+use crate::argument::Asked;
+use crate::argument::View;
+use crate::argument::argument;
 use crate::draw::glass;
 use crate::draw::pbm;
-use crate::input::Asked;
-use crate::input::View;
-use crate::input::argument;
-use crate::input::read_all;
 use crate::play::play_cycles;
 use crate::play::start_memory;
 use crate::stream::stream;
+use input::read_all;
 use jobs::header::Header;
 use jobs::header::Job;
 use jobs::header::read_header;

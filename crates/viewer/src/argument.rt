@@ -1,8 +1,6 @@
-// What the program is given: its one argument, and standard input.
+// What the program is asked for: its one argument.
 ghost use mathlib.Core.Path.{_≡_};
 ghost use mathlib.Core.Bool.{true};
-ghost use Prim.Native.Nat.{_+_, _≤_};
-ghost use lib.ListN.{length};
 
 // What can be asked for: the glass drawn, a PBM picture of it, or the update's cycles.
 pub(crate) enum View {
@@ -56,44 +54,4 @@ pub(crate) fn argument() -> Asked {
     let mut word = io::buffer();
     let n = os::arg(1, &mut word);
     named(&word[..n])
-}
-
-// How many bytes came, and whether a read failed.
-pub(crate) struct Input {
-    pub(crate) count: usize,
-    pub(crate) failed: bool,
-}
-
-// One read into the buffer, from a place on.
-fn read_some(buffer: &mut [u8], from: usize) -> Input
-    requires { ⌜ from ≤ length (now buffer) ⌝ }
-    ensures { λ r. ⌜ from + r .count ≤ length (now (buffer .exit)) ⌝ }
-{
-    let rest = &mut buffer[from..];
-    let got = libc::read(libc::STDIN_FILENO, rest);
-    Input {
-        count: io::count(got, rest),
-        failed: got < 0,
-    }
-}
-
-// Reads standard input to its end, or until the buffer is full.
-pub(crate) fn read_all(buffer: &mut [u8]) -> Input
-    ensures { λ r. ⌜ r .count ≤ length (now (buffer .exit)) ⌝ }
-{
-    let mut n = 0;
-    while n < buffer.len() {
-        let input = read_some(buffer, n);
-        if input.failed {
-            return input;
-        }
-        if input.count == 0 {
-            break;
-        }
-        n += input.count;
-    }
-    Input {
-        count: n,
-        failed: false,
-    }
 }

@@ -1,4 +1,4 @@
--- `viewer::input::same` meets its contract: before each byte, the words agree so far.
+-- `viewer::argument::same` meets its contract: before each byte, the words agree so far.
 -- Assumes nothing.
 use Prim.Native.Nat.{ℕ, _-_, _≤_, _<_}
 use mathlib.Core.Path.{_≡_, refl, ap}
@@ -6,8 +6,8 @@ use native.Mathlib.Omega.{arith}
 use borrow.Author.Count.{below-none, below-more}
 use lib.ListN.{length, getD}
 use Rattle.viewer.proofs.Words.{unlike, alike}
-use Rattle.viewer.proofs.input.same.Statement.{statement}
-use Rattle.viewer.proofs.input.same.Tie as tie
+use Rattle.viewer.proofs.argument.same.Statement.{statement}
+use Rattle.viewer.proofs.argument.same.Tie as tie
 
 abbrev Inv-loop : tie.InvT-loop
 Inv-loop a b i₀ i = (i ≤ length a) × (length a ≡ length b) × ((k : ℕ) → k < i → getD a k 0 ≡ getD b k 0)

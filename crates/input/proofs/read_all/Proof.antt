@@ -1,12 +1,12 @@
--- `viewer::input::read_all` meets its contract: what has been read stays within the buffer, and each turn that goes on has read more.
+-- `input::read_all` meets its contract: what has been read stays within the buffer, and each turn that goes on has read more.
 -- Assumes nothing.
 use Prim.Native.Nat.{_-_, _≤_}
 use mathlib.Core.Path.{_≡_, refl}
 use native.Mathlib.Omega.{arith}
 use borrow.Author.Needs.{needs}
 use lib.ListN.{length}
-use Rattle.viewer.proofs.input.read_all.Statement.{statement}
-use Rattle.viewer.proofs.input.read_all.Tie as tie
+use Rattle.input.proofs.read_all.Statement.{statement}
+use Rattle.input.proofs.read_all.Tie as tie
 
 abbrev Inv-loop : tie.InvT-loop
 Inv-loop buffer₀ n₀ buffer n = (n ≤ length buffer) × (length buffer ≡ length buffer₀)

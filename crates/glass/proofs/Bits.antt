@@ -1,15 +1,14 @@
--- A byte from its bits.
+-- A byte from its bits, and its bits.
 -- Assumes nothing.
 use mathlib.Core.Path.{_≡_, refl}
 use mathlib.Core.Bool.{Bool, true, false, cond}
 use Prim.Native.Nat.{ℕ, zero, suc, _+_, _*_, _/_, _%_, _^_, _≤_, _<_}
-use native.Mathlib.Nat.{two-pow-succ, pow-le-pow-right, one-le-pow, pow-succ', div-one, div-div-eq-div-mul, le-of-suc-le-suc, not-suc-le-zero}
+use native.Mathlib.Nat.{two-pow-succ, pow-le-pow-right, one-le-pow, pow-succ', div-one, div-eq-of-lt, div-div-eq-div-mul, le-of-suc-le-suc, not-suc-le-zero}
 use native.Mathlib.Numerals.{add-one}
 use native.Mathlib.Omega.{arith}
 use lib.Dec.{lit<, eqb}
 use borrow.Author.Tests.{eq-eqb, ne-eqb}
-use Rattle.glass.specs.Dot.{bitOf}
-use Rattle.glass.specs.Frame.{sumOf}
+use Rattle.glass.specs.Bit.{bitOf, sumOf}
 
 one-more : (b : Bool) (x p q : ℕ) → x < p → q ≡ p + p → x + cond b p 0 < q
 one-more true x p q h e = omega arith
@@ -26,6 +25,14 @@ fits f n h = let p : 2 ^ n ≤ 256 = pow-le-pow-right {n = 2} (lit< tt) h in ome
 
 pub positive : (b : ℕ) → 0 < 2 ^ b
 positive b = one-le-pow b 2 (lit< tt)
+
+-- a byte has no bit from 8 on
+pub no-bit : (x b : ℕ) → x < 256 → 7 < b → bitOf x b ≡ false
+unfolding bitOf
+no-bit x b h lt =
+    let p : 256 ≤ 2 ^ b = pow-le-pow-right {n = 2} (lit< tt) lt in
+    let less : x < 2 ^ b = omega arith in
+    rw (div-eq-of-lt less)
 
 -- one more bit, as the code counts
 pub step : (f : ℕ → Bool) (n : ℕ) {sum w : ℕ} {on : Bool} → sum ≡ sumOf f n → on ≡ f n → w ≡ cond on (2 ^ n) 0 → sum + w ≡ sumOf f (n + 1)

@@ -16,8 +16,9 @@ use Rattle.instructions.specs.declared.numbers.Numbers.{Numbers}
 use Rattle.controller.proofs.Cells.{place}
 use Rattle.controller.specs.Registers.{withStartLine, withAdc, withShl, withReverse}
 use Rattle.controller.specs.declared.registers.Registers.{Registers}
-use Rattle.glass.specs.Dot.{bitOf, lineOf, columnOf, dotOf, dotAt, litOf}
-use Rattle.glass.specs.Frame.{sumOf, stripByte, frameOf}
+use Rattle.glass.specs.Bit.{bitOf, sumOf}
+use Rattle.glass.specs.Dot.{lineOf, columnOf, dotOf, dotAt, litOf}
+use Rattle.glass.specs.Frame.{stripByte, frameOf}
 use Rattle.glass.proofs.Listed.{at, length-listed, listed-same}
 use Rattle.glass.proofs.Bits.{bit-is, sum-same}
 

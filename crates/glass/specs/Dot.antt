@@ -1,16 +1,13 @@
 -- One dot: which line a row shows, which column a segment shows, and when a dot is lit.
 -- Assumes nothing.
-use Prim.Native.Nat.{ℕ, _+_, _-_, _*_, _/_, _%_, _^_}
+use Prim.Native.Nat.{ℕ, _+_, _-_, _*_, _/_, _%_}
 use mathlib.Core.Bool.{Bool, true, false, cond, not}
 use mathlib.Core.List.{List}
 use lib.ListN.{getD}
 use lib.Dec.{ltb, eqb}
 use Rattle.instructions.specs.declared.numbers.Numbers.{Numbers}
 use Rattle.controller.specs.declared.registers.Registers.{Registers}
-
--- bit b of a byte
-unfoldable pub bitOf : ℕ → ℕ → Bool
-bitOf x b = eqb (x / 2 ^ b % 2) 1
+use Rattle.glass.specs.Bit.{bitOf}
 
 -- row k shows line (start + k) mod 64 if SHL is 0, (start + rows - 1 - k) mod 64 if 1
 unfoldable pub lineOf : ℕ → ℕ → Bool → ℕ → ℕ

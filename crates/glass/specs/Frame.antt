@@ -1,8 +1,8 @@
 -- The lit frame: a picture's layout, with segments for columns and rows for lines.
 -- Assumes nothing.
-use Prim.Native.Nat.{ℕ, zero, suc, _+_, _*_, _/_, _%_, _^_}
+use Prim.Native.Nat.{ℕ, zero, suc, _+_, _*_, _/_, _%_}
 use mathlib.Core.Path.{_≡_}
-use mathlib.Core.Bool.{Bool, cond, not, _||_}
+use mathlib.Core.Bool.{cond, not, _||_}
 use mathlib.Core.List.{List, [], _∷_}
 use lib.ListN.{length}
 use lib.Dec.{eqb}
@@ -11,14 +11,10 @@ use Rattle.instructions.specs.Told.{Told, given, refused}
 use Rattle.instructions.specs.declared.numbers.Numbers.{Numbers}
 use Rattle.controller.specs.Registers.{outside}
 use Rattle.controller.specs.declared.registers.Registers.{Registers}
+use Rattle.glass.specs.Bit.{sumOf}
 use Rattle.glass.specs.Dot.{litOf}
 use Rattle.glass.specs.declared.frame.Shown.{Shown}
 use Rattle.glass.specs.declared.frame.Shown.the-variants.{Drawn, Refused}
-
--- the number whose n lowest bits are f's
-unfoldable pub sumOf : (ℕ → Bool) → ℕ → ℕ
-sumOf f zero = 0
-sumOf f (suc n) = sumOf f n + cond (f n) (2 ^ n) 0
 
 -- strip t under segment s: bit b is row 8t + b. Strip 8 has the icon row in bit 0, and its bits 1 to 7 are 0
 unfoldable pub stripByte : Numbers → Registers → List ℕ → ℕ → ℕ → ℕ

@@ -1,3 +1,4 @@
+pub mod Bit
 pub mod Dot
 pub mod Frame
 pub mod Power

@@ -1,40 +1,14 @@
 // One dot: which line a row shows, which column a segment shows, and when a dot is lit.
 ghost use mathlib.Core.Path.{_≡_};
-ghost use mathlib.Core.Bool.{cond};
-ghost use Prim.Native.Nat.{_*_, _^_, _≤_, _<_};
+ghost use Prim.Native.Nat.{_*_, _≤_, _<_};
 ghost use lib.ListN.{length};
 ghost use Rattle.instructions.specs.Numbers.{Sensible};
-ghost use Rattle.glass.specs.Dot.{bitOf, lineOf, columnOf, cellBit, dotOf, dotAt, litOf};
+ghost use Rattle.glass.specs.Dot.{lineOf, columnOf, cellBit, dotOf, dotAt, litOf};
+use crate::bit::bit_of;
 use crate::frame::Segment;
 use controller::registers::Column;
 use controller::registers::Registers;
 use instructions::numbers::Numbers;
-
-const POWERS: [u8; 8] = [1, 2, 4, 8, 16, 32, 64, 128];
-
-// What bit b counts.
-fn power_of(b: usize) -> u8
-    requires { ⌜ b < 8 ⌝ }
-    ensures { λ r. ⌜ r ≡ 2 ^ b ⌝ }
-{
-    POWERS[b]
-}
-
-// What bit b adds to its byte: nothing where it is not on.
-pub(crate) fn weight(on: bool, b: usize) -> u8
-    requires { ⌜ b < 8 ⌝ }
-    ensures { λ r. ⌜ r ≡ cond on (2 ^ b) 0 ⌝ }
-{
-    if on { power_of(b) } else { 0 }
-}
-
-// Bit b of a byte.
-fn bit_of(byte: u8, b: usize) -> bool
-    requires { ⌜ b < 8 ⌝ }
-    ensures { λ r. ⌜ r ≡ bitOf byte b ⌝ }
-{
-    byte / power_of(b) % 2 == 1
-}
 
 // Row k shows line (start + k) mod 64 if SHL is 0, (start + rows - 1 - k) mod 64 if 1.
 fn line_of(rows: usize, start: u8, shl: bool, row: usize) -> usize

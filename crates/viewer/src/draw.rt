@@ -1,18 +1,15 @@
 // The lit frame in rows of characters: rows 0 to 63 are the commons, row 64 is the icon row.
 use crate::play::blank;
 use controller::registers::Registers;
+use glass::bit::bit_of;
 use glass::frame::frame;
 ghost use mathlib.Core.Path.{_≡_};
-ghost use Prim.Native.Nat.{_+_, _^_, _≤_, _<_};
+ghost use Prim.Native.Nat.{_+_, _≤_, _<_};
 ghost use lib.ListN.{length};
 ghost use Rattle.instructions.specs.Numbers.{numbers0713};
 ghost use Rattle.controller.specs.Registers.{Ranged};
-ghost use Rattle.glass.specs.Dot.{bitOf};
 ghost use Rattle.glass.specs.Frame.{frameOf, listed};
 ghost use Rattle.viewer.specs.Drawn.{glyph};
-
-// What the bits of a byte count.
-const POWERS: [u8; 8] = [1, 2, 4, 8, 16, 32, 64, 128];
 
 // The lit frame.
 fn lit_frame(registers: Registers, memory: &[u8]) -> [u8; 1188]
@@ -22,22 +19,6 @@ fn lit_frame(registers: Registers, memory: &[u8]) -> [u8; 1188]
     let mut out = blank();
     frame(registers, memory, &mut out);
     out
-}
-
-// What bit b counts.
-fn power_of(b: usize) -> u8
-    requires { ⌜ b < 8 ⌝ }
-    ensures { λ r. ⌜ r ≡ 2 ^ b ⌝ }
-{
-    POWERS[b]
-}
-
-// Bit b of a byte.
-fn bit_of(byte: u8, b: usize) -> bool
-    requires { ⌜ b < 8 ⌝ }
-    ensures { λ r. ⌜ r ≡ bitOf byte b ⌝ }
-{
-    byte / power_of(b) % 2 == 1
 }
 
 // A row of a frame under a segment, as the character for a lit dot or the one for a dark dot.

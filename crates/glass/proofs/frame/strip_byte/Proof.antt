@@ -4,8 +4,9 @@ use Prim.Native.Nat.{ℕ, _+_, _-_, _*_, _≤_}
 use mathlib.Core.Path.{_≡_, refl}
 use native.Mathlib.Omega.{arith}
 use borrow.Author.Needs.{needs}
+use Rattle.glass.specs.Bit.{sumOf}
 use Rattle.glass.specs.Dot.{litOf}
-use Rattle.glass.specs.Frame.{sumOf, stripByte}
+use Rattle.glass.specs.Frame.{stripByte}
 use Rattle.glass.proofs.Bits.{step, room}
 use Rattle.glass.proofs.frame.strip_byte.Statement.{statement}
 use Rattle.glass.proofs.frame.strip_byte.Tie as tie

@@ -2,13 +2,12 @@
 -- Assumes nothing.
 use mathlib.Core.Path.{sym, _∙_}
 use borrow.Author.Needs.{needs}
-use Rattle.glass.specs.Dot.{cellBit}
 use Rattle.viewer.specs.Drawn.{glyph}
 use Rattle.viewer.proofs.draw.character.Statement.{statement}
 use Rattle.viewer.proofs.draw.character.Tie as tie
 
 pub character-spec : {M : Type 1} → statement M
-unfolding glyph cellBit
+unfolding glyph
 character-spec =
     tie.close
     (tie.spec

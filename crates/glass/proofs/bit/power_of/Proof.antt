@@ -1,10 +1,10 @@
--- `viewer::draw::power_of` meets its contract: the table is the rule's list.
+-- `glass::bit::power_of` meets its contract: the table is the rule's list.
 -- Assumes nothing.
 use Prim.Native.Nat.{ℕ, _^_}
 use borrow.Author.Needs.{needs}
 use Rattle.glass.proofs.Listed.{at}
-use Rattle.viewer.proofs.draw.power_of.Statement.{statement}
-use Rattle.viewer.proofs.draw.power_of.Tie as tie
+use Rattle.glass.proofs.bit.power_of.Statement.{statement}
+use Rattle.glass.proofs.bit.power_of.Tie as tie
 
 pub power-of-spec : {M : Type 1} → statement M
 power-of-spec =

@@ -1,8 +1,8 @@
--- `glass::dot::weight` meets its contract.
+-- `glass::bit::weight` meets its contract.
 -- Assumes nothing.
 use borrow.Author.Needs.{needs}
-use Rattle.glass.proofs.dot.weight.Statement.{statement}
-use Rattle.glass.proofs.dot.weight.Tie as tie
+use Rattle.glass.proofs.bit.weight.Statement.{statement}
+use Rattle.glass.proofs.bit.weight.Tie as tie
 
 pub weight-spec : {M : Type 1} → statement M
 weight-spec =

@@ -1,4 +1,5 @@
 pub mod Scan
+pub mod Loading
 pub mod Putting
 pub mod Playing
 pub mod Bound

@@ -2,13 +2,12 @@
 -- Assumes nothing.
 use Prim.Native.Nat.{ℕ, suc, _+_, _*_, _-_, _≤_, _<_}
 use mathlib.Core.Path.{_≡_, refl, sym, ap, subst, _∙_}
-use mathlib.Core.Bool.{Bool, cond}
-use mathlib.Core.List.{List, [], _++_, append-nil}
+use mathlib.Core.List.{List, _++_, append-nil}
 use native.Mathlib.Nat.{zero-add}
 use native.Mathlib.Numerals.{add-one}
 use native.Mathlib.Omega.{arith}
-use lib.ListN.{length, replicate, take, drop, getD, set, length-append, length-drop, drop-of-length-le}
-use lib.Seq.{sets, sets-eq, paste-suc, getD-drop, length-take-le}
+use lib.ListN.{length, take, drop, length-append, length-drop}
+use lib.Seq.{sets, sets-eq, length-take-le}
 use borrow.Author.Tests.{lt-ltb, le-ltb, ne-eqb}
 use Rattle.instructions.specs.Refusal.{shortOutput}
 use Rattle.instructions.specs.Told.{given}
@@ -23,9 +22,10 @@ use Rattle.planner.specs.Count.{toldCount, IsLength}
 use Rattle.planner.specs.declared.count.Count.{Count}
 use Rattle.planner.specs.declared.count.Count.the-variants as count
 use Rattle.planner.proofs.Exactly.{right-size}
-use Rattle.jobs.specs.Header.{cycleAt, picture1, picture2, IsHeader}
+use Rattle.jobs.specs.Header.{cycleAt, picture2, IsHeader}
 use Rattle.jobs.specs.Text.{readLine, refusalLine, badLine, endLine, updateLine}
-use Rattle.jobs.specs.Play.{lineOf, answerAt, ending, textFrom, startMemory, powerUp, textBy, textOf, IsPlayed}
+use Rattle.jobs.specs.Memory.{startMemory}
+use Rattle.jobs.specs.Play.{lineOf, answerAt, ending, textFrom, powerUp, textBy, textOf, IsPlayed}
 use Rattle.jobs.specs.Output.{Put, Remains, Turned, Holds, poweredUp}
 use Rattle.jobs.specs.declared.header.Job.{Job}
 use Rattle.jobs.specs.declared.header.Header.{Header}
@@ -99,43 +99,17 @@ module _ (file : List ℕ) (j : Job) (i : ℕ) (s : State) where
   unfolding textFrom
   remains-ending h q = let e : j .cycles - i ≡ 0 = omega arith in rw e at q
 
--- ---- a picture copied a byte at a time over z
+-- ---- the last lines
 
-module _ (z file : List ℕ) (from n : ℕ) (long : length z ≡ n) (fits : from + n ≤ length file) where
-  pub load-step : (i : ℕ) → i < n
-      → set (take i (drop from file) ++ drop i z) i (getD file (from + i) 0) ≡ take (i + 1) (drop from file) ++ drop (i + 1) z
-  load-step i h =
-      let inz : 0 + i < length z = omega arith in
-      let ins : i < length (drop from file) = simp length-drop (omega arith) in
-      rw add-one (rw getD-drop at (simp zero-add at (paste-suc z 0 (drop from file) i 0 inz ins)))
+module _ (file : List ℕ) (j : Job) (s : State) {o o′ : List ℕ} {at a : ℕ} (p : Put o at (endLine (s .registers)) o′ a 214) where
+  pub ending-short : j .pictures < 2 → Put o at (ending file j s) o′ a 242
+  unfolding ending
+  ending-short h = rw (lt-ltb _ _ h, append-nil (endLine (s .registers))) (put-most (omega arith) p)
 
-  pub load-end : (i : ℕ) → n ≤ i → i ≤ n → take i (drop from file) ++ drop i z ≡ take n (drop from file)
-  load-end i h k =
-      let e : i ≡ n = omega arith in
-      let l : length z ≤ n = omega arith in
-      let d : drop n z ≡ [] = drop-of-length-le z l in
-      rw (e, d) (append-nil _)
-
--- ---- the memory at power-up, and the last lines
-
-module _ (file : List ℕ) (j : Job) where
-  pub start-zeros : {m : List ℕ} → j .pictures < 1 → m ≡ replicate 1188 0 → m ≡ startMemory file j
-  unfolding startMemory
-  start-zeros h e = e ∙ sym (ap (λ (b : Bool). cond b (replicate 1188 0) (picture1 file (j .cycles))) (lt-ltb _ _ h))
-
-  pub start-picture : {m : List ℕ} → 1 ≤ j .pictures → m ≡ picture1 file (j .cycles) → m ≡ startMemory file j
-  unfolding startMemory
-  start-picture h e = e ∙ sym (ap (λ (b : Bool). cond b (replicate 1188 0) (picture1 file (j .cycles))) (le-ltb _ _ h))
-
-  module _ (s : State) {o o′ : List ℕ} {at a : ℕ} (p : Put o at (endLine (s .registers)) o′ a 214) where
-    pub ending-short : j .pictures < 2 → Put o at (ending file j s) o′ a 242
-    unfolding ending
-    ending-short h = rw (lt-ltb _ _ h, append-nil (endLine (s .registers))) (put-most (omega arith) p)
-
-    pub ending-long : {o″ : List ℕ} {b n : ℕ} → 2 ≤ j .pictures → n ≡ updateLength 132 (s .memory) (picture2 file (j .cycles))
-        → Put o′ a (updateLine n) o″ b 28 → Put o at (ending file j s) o″ b 242
-    unfolding ending
-    ending-long h e q = rw (le-ltb _ _ h, ← e) (put-then p q)
+  pub ending-long : {o″ : List ℕ} {b n : ℕ} → 2 ≤ j .pictures → n ≡ updateLength 132 (s .memory) (picture2 file (j .cycles))
+      → Put o′ a (updateLine n) o″ b 28 → Put o at (ending file j s) o″ b 242
+  unfolding ending
+  ending-long h e q = rw (le-ltb _ _ h, ← e) (put-then p q)
 
 -- ---- the update's length
 

@@ -5,7 +5,7 @@ use mathlib.Core.Path.{_≡_}
 use mathlib.Core.Bool.{false, cond}
 use mathlib.Core.Option.{Option, none, some}
 use mathlib.Core.List.{List, [], _++_}
-use lib.ListN.{length, drop, replicate}
+use lib.ListN.{length, drop}
 use lib.Dec.{ltb, eqb}
 use Rattle.instructions.specs.Refusal.{shortOutput}
 use Rattle.instructions.specs.Told.{Told, given, refused}
@@ -14,7 +14,8 @@ use Rattle.controller.specs.Registers.{start}
 use Rattle.controller.specs.Cycle.{Outcome, answer}
 use Rattle.controller.specs.State.{State, state, step}
 use Rattle.streams.specs.Length.{updateLength}
-use Rattle.jobs.specs.Header.{cycleAt, picture1, picture2, headerOf}
+use Rattle.jobs.specs.Header.{cycleAt, picture2, headerOf}
+use Rattle.jobs.specs.Memory.{startMemory}
 use Rattle.jobs.specs.Text.{readLine, refusalLine, badLine, endLine, updateLine}
 use Rattle.jobs.specs.declared.header.Job.{Job}
 use Rattle.jobs.specs.declared.play.Played.{Played}
@@ -43,10 +44,7 @@ unfoldable pub textFrom : List ℕ → Job → State → ℕ → ℕ → List �
 textFrom file j s i zero = ending file j s
 textFrom file j s i (suc n) = lineOf i (answerAt file i s) ++ textFrom file j (step numbers0713 s (cycleAt file i)) (suc i) n
 
--- picture 1 is the memory at power-up, zeros if absent
-unfoldable pub startMemory : List ℕ → Job → List ℕ
-startMemory file j = cond (ltb (j .pictures) 1) (replicate 1188 0) (picture1 file (j .cycles))
-
+-- the chip at power-up
 abbrev pub powerUp : List ℕ → Job → State
 powerUp file j = state (start numbers0713 0 false) (startMemory file j)
 

@@ -1,4 +1,5 @@
 // Job files: their header, and the whole text that playing one gives.
 pub mod header;
+pub mod memory;
 pub mod play;
 mod text;

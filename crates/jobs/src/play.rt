@@ -2,6 +2,7 @@
 use crate::header::Header;
 use crate::header::Job;
 use crate::header::read_header;
+use crate::memory::start_memory;
 use crate::text::put_bad;
 use crate::text::put_end;
 use crate::text::put_read;
@@ -16,11 +17,11 @@ use planner::count::Count;
 use planner::length::update_length;
 ghost use mathlib.Core.Path.{_≡_};
 ghost use Prim.Native.Nat.{_+_, _*_, _<_, _≤_};
-ghost use lib.ListN.{length, take, drop, replicate};
+ghost use lib.ListN.{length};
 ghost use Rattle.controller.specs.State.{state};
 ghost use Rattle.streams.specs.Length.{updateLength};
 ghost use Rattle.jobs.specs.Header.{picture2};
-ghost use Rattle.jobs.specs.Play.{ending, textFrom, startMemory, powerUp, textOf, IsPlayed};
+ghost use Rattle.jobs.specs.Play.{ending, textFrom, powerUp, textOf, IsPlayed};
 ghost use Rattle.jobs.specs.Output.{Put, Remains, Turned, Holds, poweredUp};
 
 // The length of the text, or the number of a refusal.
@@ -118,38 +119,6 @@ fn finish(
     }
     let n = wanted_length(file, job, memory);
     put_update(out, next, n)
-}
-
-// A memory of zeros.
-fn blank() -> [u8; 1188]
-    ensures { λ r. ⌜ (1188 ≡ length r) × (r ≡ replicate 1188 0) ⌝ }
-{
-    [0u8; 1188]
-}
-
-// A picture as an array.
-fn load(file: &[u8], from: usize) -> [u8; 1188]
-    requires { ⌜ from + 1188 ≤ length (now file) ⌝ }
-    ensures { λ r. ⌜ (1188 ≡ length r) × (r ≡ take 1188 (drop from (now (file .entry)))) ⌝ }
-{
-    let mut memory = blank();
-    let mut i = 0;
-    while i < 1188 {
-        memory[i] = file[from + i];
-        i += 1;
-    }
-    memory
-}
-
-// The memory at power-up: picture 1, or zeros.
-fn start_memory(file: &[u8], job: Job) -> [u8; 1188]
-    requires { ⌜ Holds (now file) job ⌝ }
-    ensures { λ r. ⌜ (1188 ≡ length r) × (r ≡ startMemory (now (file .entry)) job) ⌝ }
-{
-    if job.pictures < 1 {
-        return blank();
-    }
-    load(file, 8 + 2 * job.cycles)
 }
 
 // The text of a good job.

@@ -1,5 +1,4 @@
 // The lit frame in rows of characters: rows 0 to 63 are the commons, row 64 is the icon row.
-use crate::play::blank;
 use controller::registers::Registers;
 use glass::bit::bit_of;
 use glass::frame::frame;
@@ -11,12 +10,19 @@ ghost use Rattle.controller.specs.Registers.{Ranged};
 ghost use Rattle.glass.specs.Frame.{frameOf, listed};
 ghost use Rattle.viewer.specs.Drawn.{glyph};
 
+// Room for a frame. It stands in a function of its own, so that its bytes are not computed where it is used.
+fn room() -> [u8; 1188]
+    ensures { λ r. ⌜ 1188 ≡ length r ⌝ }
+{
+    [0; 1188]
+}
+
 // The lit frame.
 fn lit_frame(registers: Registers, memory: &[u8]) -> [u8; 1188]
     requires { ⌜ Ranged numbers0713 registers × (length (now memory) ≡ 1188) ⌝ }
     ensures { λ r. ⌜ (1188 ≡ length r) × (r ≡ frameOf numbers0713 registers (now (memory .entry))) ⌝ }
 {
-    let mut out = blank();
+    let mut out = room();
     frame(registers, memory, &mut out);
     out
 }

@@ -11,12 +11,12 @@ use crate::argument::argument;
 use crate::draw::glass;
 use crate::draw::pbm;
 use crate::play::play_cycles;
-use crate::play::start_memory;
 use crate::stream::stream;
 use input::read_all;
 use jobs::header::Header;
 use jobs::header::Job;
 use jobs::header::read_header;
+use jobs::memory::start_memory;
 ghost use Rattle.jobs.specs.Output.{Holds};
 
 // What is asked of a good job: answers whether it could be written.

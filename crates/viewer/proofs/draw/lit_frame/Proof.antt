@@ -9,7 +9,7 @@ use Rattle.viewer.proofs.draw.lit_frame.Tie as tie
 returns : tie.Need-returns
 returns c =
     let s = c .before .before .before .before .before in
-    (search needs, frame-given (s .pre .0) (s .pre .1) (sym (c .before .before .before .blank .ensures .0)) (c .before .frame .ensures))
+    (search needs, frame-given (s .pre .0) (s .pre .1) (sym (c .before .before .before .room .ensures)) (c .before .frame .ensures))
 
 pub lit-frame-spec : {M : Type 1} → statement M
 lit-frame-spec =

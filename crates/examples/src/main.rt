@@ -51,6 +51,7 @@ fn good() {
     example(b"page-nine.job");
     example(b"refused.job");
     example(b"update.job");
+    example(b"screen.job");
 }
 
 // Damaged files, of each kind.

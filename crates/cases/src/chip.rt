@@ -64,7 +64,7 @@ fn play(registers: Registers, memory: &mut [u8], kind: u8, value: u8) -> Registe
             byte(status);
             registers
         }
-        Answer::Read(read, next) => {
+        Answer::Read(next, read) => {
             word(b" read");
             byte(read);
             next

@@ -32,13 +32,13 @@ back o = by (o .number) (o .byte) (o .registers)
     by n none none = Refused n
     by n none (some r) = Done r
     by n (some b) none = Status b
-    by n (some b) (some r) = Read b r
+    by n (some b) (some r) = Read r b
 
 back-is : (a : Answer) → back (outcome a) ≡ a
 unfolding back
 back-is (Done r) = refl
 back-is (Status b) = refl
-back-is (Read b r) = refl
+back-is (Read r b) = refl
 back-is (Refused n) = refl
 
 -- two answers and two memories that a cycle's promise admits are equal

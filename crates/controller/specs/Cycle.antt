@@ -44,7 +44,7 @@ refusedWith n = record { number = n; byte = none; registers = none }
 abbrev pub outcome : Answer → Outcome
 outcome (Done r) = done r
 outcome (Status b) = statusRead b
-outcome (Read b r) = dataRead b r
+outcome (Read r b) = dataRead b r
 outcome (Refused n) = refusedWith n
 
 -- ---- the six kinds

@@ -27,11 +27,11 @@ use instructions::refusal::PIN_LOW;
 use instructions::refusal::WRONG_CYCLE;
 use instructions::refusal::WRONG_SIZE;
 
-// What a cycle answers: registers after it, the status byte, the byte read and the registers after it, or a refusal's number.
+// What a cycle answers: the registers after it, the status byte, the registers after it and the byte read, or a refusal's number.
 pub enum Answer {
     Done(Registers),
     Status(u8),
-    Read(u8, Registers),
+    Read(Registers, u8),
     Refused(u8),
 }
 
@@ -134,7 +134,7 @@ fn carry_out(chip: Numbers, registers: Registers, memory: &mut [u8], kind: u8, v
     if kind == 3 {
         let byte = load(width, &*memory, registers.page, registers.column.0);
         let mode = registers.modify_read;
-        return Answer::Read(registers.holder, after_read(width, registers, mode, byte));
+        return Answer::Read(after_read(width, registers, mode, byte), registers.holder);
     }
     if kind == 4 {
         return Answer::Done(started(chip, registers.holder, true));

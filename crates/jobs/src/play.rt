@@ -58,7 +58,7 @@ fn turn(
             registers,
             at: put_read(out, at, i, byte),
         },
-        Answer::Read(byte, next) => After {
+        Answer::Read(next, byte) => After {
             registers: next,
             at: put_read(out, at, i, byte),
         },

@@ -69,7 +69,7 @@ pub extern "C" fn panel_cycle(
             *byte = status;
             0
         }
-        Answer::Read(holder, after) => {
+        Answer::Read(after, holder) => {
             *state = pack(after);
             *read = 1;
             *byte = holder;

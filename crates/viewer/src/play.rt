@@ -21,7 +21,7 @@ fn turn(file: &[u8], i: usize, registers: Registers, memory: &mut [u8]) -> Regis
     match cycle(registers, memory, file[8 + 2 * i], file[9 + 2 * i]) {
         Answer::Done(next) => next,
         Answer::Status(_) => registers,
-        Answer::Read(_, next) => next,
+        Answer::Read(next, _) => next,
         Answer::Refused(_) => registers,
     }
 }

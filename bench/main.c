@@ -1,74 +1,111 @@
-/* The benchmark: the proved library beside the independent model, on the same input, in one run. It prints docs/BENCHMARKS.md's
-   tables. */
+/* The benchmark: the proved library beside the independent model, on the same input, in one run. It prints the tables of
+   docs/BENCHMARKS.md. */
 #include "measure.h"
 #include "pictures.h"
 #include "posix.h"
 #include "sides.h"
 #include "ways.h"
 
-static void row(const char *call, const char *input, enum call which)
+struct cost { double steps[SIDES], times[SIDES]; };
+
+static struct cost cost_of(enum call call)
 {
-    long steps[SIDES];
-    double times[SIDES];
+    struct cost cost;
     void (*calls[SIDES])(void);
-    for (int side = 0; side < SIDES; side++) calls[side] = sides[side].call[which];
-    for (int side = 0; side < SIDES; side++) steps[side] = steps_of(calls[side]);
-    times_of(calls, SIDES, times);
-    printf("| %s | %s | %ld | %ld | %ld | %.2f | %.2f | %.2f | %.2f |\n", call, input, steps[OURS], steps[O2], steps[O3],
-        (double)steps[OURS] / steps[O2], (double)steps[OURS] / steps[O3], times[OURS] / times[O2], times[OURS] / times[O3]);
+    for (int side = 0; side < SIDES; side++) calls[side] = sides[side].call[call];
+    for (int side = 0; side < SIDES; side++) cost.steps[side] = steps_of(calls[side]);
+    times_of(calls, SIDES, cost.times);
+    return cost;
 }
 
 static void head(const char *title)
 {
-    printf("\n## %s\n\n| Call | Input | Library | C -O2 | C -O3 restrict | / -O2 | / -O3 | time / -O2 | time / -O3 |\n", title);
+    printf("\n### %s\n\n| Call | Input | Library | C -O2 | C -O3 restrict | Library / -O2 | Library / -O3 | Time / -O2 | Time / -O3 |\n", title);
     printf("|---|---|---:|---:|---:|---:|---:|---:|---:|\n");
+}
+
+static void row(const char *call, const char *input, struct cost cost)
+{
+    const double *n = cost.steps, *t = cost.times;
+    printf("| %s | %s | %.0f | %.0f | %.0f | %.2f | %.2f | %.2f | %.2f |\n", call, input, n[OURS], n[O2], n[O3], n[OURS] / n[O2],
+        n[OURS] / n[O3], t[OURS] / t[O2], t[OURS] / t[O3]);
 }
 
 static void pictures(void)
 {
     static const struct { const char *name; enum call call; } calls[] = {
-        { "update", UPDATE }, { "update length", LENGTH }, { "first difference", FIRST }, { "redraw", REDRAW } };
+        { "update length", LENGTH }, { "first difference", FIRST }, { "update, any room", UPDATE } };
     head("Pictures and streams");
+    desk.room = ROOM;
     for (size_t c = 0; c < sizeof calls / sizeof calls[0]; c++)
         for (int change = EQUAL; change < CHANGES; change++) {
-            if (calls[c].call == REDRAW && change != FULL) continue;
             draw_change(change, desk.recorded, desk.wanted);
-            row(calls[c].name, change_name[change], calls[c].call);
+            row(calls[c].name, change_name[change], cost_of(calls[c].call));
         }
+    for (int change = SETPOINT; change < FULL; change++) {
+        draw_change(change, desk.recorded, desk.wanted);
+        sides[OURS].call[LENGTH]();
+        desk.room = desk.count;
+        row("update, exact room", change_name[change], cost_of(UPDATE));
+    }
+    desk.room = ROOM;
+    row("redraw", "any", cost_of(REDRAW));
 }
 
-/* registers in the middle of things: page 3, column 40, display on; the model has the same bytes in the same order */
-static void set_chip(uint8_t kind, uint8_t value)
+static const struct { const char *name; uint8_t kind, value; } cycles[] = {
+    { "instruction B3, page", 0, 0xb3 }, { "instruction 1C, column", 0, 0x1c }, { "instruction 40, start line", 0, 0x40 },
+    { "instruction AF, display on", 0, 0xaf }, { "instruction E3, nothing", 0, 0xe3 }, { "instruction FF, refused", 0, 0xff },
+    { "data write", 1, 0x5a }, { "status read", 2, 0 }, { "data read", 3, 0 }, { "pin low", 4, 0 }, { "pin high", 5, 0 } };
+enum { KINDS = sizeof cycles / sizeof cycles[0] };
+
+/* one cycle of a list: what LAPS of them cost more than none, divided by LAPS */
+static void by_value(void)
+{
+    head("A cycle by value");
+    for (int c = 0; c < KINDS; c++) {
+        for (int lap = 0; lap < LAPS; lap++) desk.cycles[2 * lap] = cycles[c].kind, desk.cycles[2 * lap + 1] = cycles[c].value;
+        desk.laps = 0;
+        struct cost none = cost_of(LIST);
+        desk.laps = LAPS;
+        struct cost all = cost_of(LIST);
+        for (int side = 0; side < SIDES; side++) {
+            all.steps[side] = (all.steps[side] - none.steps[side]) / LAPS;
+            all.times[side] = (all.times[side] - none.times[side]) / LAPS;
+        }
+        row("cycle", cycles[c].name, all);
+    }
+}
+
+/* page 3, display on, and the column counter locked, so that each call of a series is the same; the model has the same bytes in the
+   same order */
+static void set_chip(void)
 {
     panel_power_up(desk.state);
     desk.state[PANEL_AT_PAGE] = 3;
-    desk.state[PANEL_AT_COLUMN] = 200; /* the counter is locked, so that each call of a series is the same */
+    desk.state[PANEL_AT_COLUMN] = 200;
     desk.state[PANEL_AT_ON] = 1;
     memcpy(&desk.registers, desk.state, sizeof desk.registers);
-    desk.kind = kind;
-    desk.value = value;
 }
 
-static void chip(void)
+static void through_state(void)
 {
-    static const struct { const char *name; uint8_t kind, value; } cycles[] = {
-        { "instruction B3 (page)", 0, 0xb3 }, { "instruction 10 (column)", 0, 0x1c }, { "instruction 40 (start line)", 0, 0x40 },
-        { "instruction AF (display on)", 0, 0xaf }, { "instruction E3 (nothing)", 0, 0xe3 }, { "instruction FF (refused)", 0, 0xff },
-        { "data write", 1, 0x5a }, { "status read", 2, 0 }, { "data read", 3, 0 }, { "pin high", 5, 0 } };
-    head("The chip, through the packed state");
-    for (size_t c = 0; c < sizeof cycles / sizeof cycles[0]; c++) {
-        set_chip(cycles[c].kind, cycles[c].value);
-        row("cycle", cycles[c].name, CYCLE);
+    head("The other calls, through the packed state");
+    for (int c = 0; c < KINDS; c++) {
+        set_chip();
+        desk.kind = cycles[c].kind;
+        desk.value = cycles[c].value;
+        row("cycle", cycles[c].name, cost_of(CYCLE));
     }
-    set_chip(0, 0xb3);
+    set_chip();
     draw_change(SPARSE, desk.memory, desk.frame);
-    row("frame", "a screen", FRAME);
-    row("power state", "normal", POWER);
-    row("V0", "resistor 5, contrast 33", V0);
-    row("read instruction", "B3", READ);
+    row("frame", "a screen", cost_of(FRAME));
+    row("power state", "normal", cost_of(POWER));
+    row("V0", "resistor 5, contrast 33", cost_of(V0));
+    desk.value = 0xb3;
+    row("read instruction", "B3", cost_of(READ));
     desk.number = PANEL_PAGE;
     desk.field = 3;
-    row("write instruction", "page 3", WRITE);
+    row("write instruction", "page 3", cost_of(WRITE));
 }
 
 static void growth(void)
@@ -107,8 +144,10 @@ static void ways(void)
 
 int main(void)
 {
+    printf("\n## Instructions and time of each call\n");
     pictures();
-    chip();
+    by_value();
+    through_state();
     growth();
     ways();
     return 0;

@@ -5,9 +5,7 @@
 #include <stdint.h>
 
 int printf(const char *, ...);
-int strcmp(const char *, const char *);
 void *memcpy(void *, const void *, size_t);
-void *memset(void *, int, size_t);
 void _exit(int);
 
 struct timespec { long tv_sec, tv_nsec; };

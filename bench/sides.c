@@ -2,7 +2,11 @@
 
 struct desk desk;
 
+/* of libbus.a: plays a list of cycles from power-up and answers the column counter after them */
+uint8_t bus_column(uint8_t *memory, size_t memory_length, const uint8_t *cycles, size_t cycles_length);
+
 /* the model's calls once more, under the names of fast.h */
+__typeof__(model_power_up) fast_power_up;
 __typeof__(model_cycle) fast_cycle;
 __typeof__(model_read_instruction) fast_read_instruction;
 __typeof__(model_write_instruction) fast_write_instruction;
@@ -15,10 +19,10 @@ __typeof__(model_update) fast_update;
 __typeof__(model_redraw) fast_redraw;
 
 #define STREAMS(side, prefix) \
-    static void side##_update(void) { prefix##_update(desk.recorded, N, desk.wanted, N, desk.out, ROOM, desk.kinds, ROOM, &desk.count); } \
+    static void side##_update(void) { prefix##_update(desk.recorded, N, desk.wanted, N, desk.out, desk.room, desk.kinds, desk.room, &desk.count); } \
     static void side##_length(void) { prefix##_update_length(desk.recorded, N, desk.wanted, N, &desk.count); } \
     static void side##_first(void) { prefix##_first_difference(desk.recorded, N, desk.wanted, N, &desk.found, &desk.page, &desk.column); } \
-    static void side##_redraw(void) { prefix##_redraw(desk.wanted, N, 33, desk.out, ROOM, desk.kinds, ROOM, &desk.count); } \
+    static void side##_redraw(void) { prefix##_redraw(desk.wanted, N, 33, desk.out, desk.room, desk.kinds, desk.room, &desk.count); } \
     static void side##_read(void) { prefix##_read_instruction(0, desk.value, &desk.number, &desk.field); } \
     static void side##_write(void) { prefix##_write_instruction(desk.number, desk.field, &desk.byte); } \
     static void side##_v0(void) { prefix##_v0(5, 33, &desk.numerator); }
@@ -28,14 +32,28 @@ __typeof__(model_redraw) fast_redraw;
     static void side##_frame(void) { prefix##_frame(registers, desk.memory, N, desk.frame, N); } \
     static void side##_power(void) { prefix##_power_state(registers, &desk.power); }
 
-#define CALLS_OF(side) { side##_update, side##_length, side##_first, side##_redraw, side##_cycle, side##_frame, side##_read, side##_write, side##_power, side##_v0 }
+#define CALLS_OF(side) { side##_update, side##_length, side##_first, side##_redraw, side##_cycle, side##_list, side##_frame, side##_read, side##_write, side##_power, side##_v0 }
+
+/* a list of cycles from power-up: the library's registers go by value from one cycle to the next */
+static void ours_list(void) { desk.byte = bus_column(desk.memory, N, desk.cycles, 2 * desk.laps); }
+
+#define LIST_OF(side, prefix) \
+    static void side##_list(void) \
+    { \
+        prefix##_power_up(&desk.registers); \
+        for (size_t i = 0; i < desk.laps; i++) \
+            prefix##_cycle(&desk.registers, desk.memory, N, desk.cycles[2 * i], desk.cycles[2 * i + 1], &desk.read, &desk.byte); \
+        desk.byte = desk.registers.column; \
+    }
 
 STREAMS(ours, panel)
 CHIP(ours, panel, desk.state)
 STREAMS(o2, model)
 CHIP(o2, model, &desk.registers)
+LIST_OF(o2, model)
 STREAMS(o3, fast)
 CHIP(o3, fast, &desk.registers)
+LIST_OF(o3, fast)
 
 const struct side sides[SIDES] = {
     { "library", CALLS_OF(ours) },

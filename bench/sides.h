@@ -5,7 +5,7 @@
 #include "model.h"
 #include "panel.h"
 
-enum { N = PANEL_PICTURE, ROOM = PANEL_REDRAW_LENGTH };
+enum { N = PANEL_PICTURE, ROOM = PANEL_REDRAW_LENGTH, LAPS = 64 };
 
 /* what every call is given, and where it puts its answer */
 struct desk {
@@ -14,13 +14,15 @@ struct desk {
     uint8_t state[PANEL_STATE];          /* the library's */
     struct model_registers registers;    /* the model's */
     uint8_t kind, value;                 /* one cycle */
+    uint8_t cycles[2 * LAPS];            /* or a list of them, of which `laps` are played */
+    size_t laps, room;                   /* and the room in both outputs */
     uint8_t number, field, byte, read, found, power;
     size_t count, page, column;
     uint32_t numerator;
 };
 extern struct desk desk;
 
-enum call { UPDATE, LENGTH, FIRST, REDRAW, CYCLE, FRAME, READ, WRITE, POWER, V0, CALLS };
+enum call { UPDATE, LENGTH, FIRST, REDRAW, CYCLE, LIST, FRAME, READ, WRITE, POWER, V0, CALLS };
 
 struct side { const char *name; void (*call[CALLS])(void); };
 enum { OURS, O2, O3, SIDES };

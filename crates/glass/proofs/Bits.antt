@@ -3,7 +3,7 @@
 use mathlib.Core.Path.{_≡_, refl}
 use mathlib.Core.Bool.{Bool, true, false, cond}
 use Prim.Native.Nat.{ℕ, zero, suc, _+_, _*_, _/_, _%_, _^_, _≤_, _<_}
-use native.Mathlib.Nat.{two-pow-succ, pow-le-pow-right, one-le-pow, pow-succ', div-one, div-eq-of-lt, div-div-eq-div-mul, le-of-suc-le-suc, not-suc-le-zero}
+use native.Mathlib.Nat.{two-pow-succ, one-mul, mod-eq-of-lt, pow-le-pow-right, one-le-pow, pow-succ', div-one, div-eq-of-lt, div-div-eq-div-mul, le-of-suc-le-suc, not-suc-le-zero}
 use native.Mathlib.Numerals.{add-one}
 use native.Mathlib.Omega.{arith}
 use lib.Dec.{lit<, eqb}
@@ -23,8 +23,11 @@ below f (suc n) = one-more (f n) (sumOf f n) (2 ^ n) (2 ^ suc n) (below f n) (tw
 fits : (f : ℕ → Bool) (n : ℕ) → n ≤ 8 → sumOf f n < 256
 fits f n h = let p : 2 ^ n ≤ 256 = pow-le-pow-right {n = 2} (lit< tt) h in omega (arith, below f n)
 
-pub positive : (b : ℕ) → 0 < 2 ^ b
-positive b = one-le-pow b 2 (lit< tt)
+-- 1 shifted up within a byte
+pub shifted-up : (b : ℕ) → b < 8 → 1 * 2 ^ b % 2 ^ 8 ≡ 2 ^ b
+shifted-up b h =
+    let p : 2 ^ suc b ≤ 256 = pow-le-pow-right {n = 2} (lit< tt) h in
+    rw one-mul (mod-eq-of-lt (omega (arith, two-pow-succ b, one-le-pow b 2 (lit< tt))))
 
 -- a byte has no bit from 8 on
 pub no-bit : (x b : ℕ) → x < 256 → 7 < b → bitOf x b ≡ false

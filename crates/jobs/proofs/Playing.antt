@@ -56,9 +56,9 @@ module _ (file : List ℕ) (i : ℕ) (r : Registers) (m o : List ℕ) (at : ℕ)
   unfolding lineOf
   turned-status {b} e p = turned (answer.Status b) e refl (put-most (omega arith) p)
 
-  pub turned-read : {b : ℕ} {s : Registers} {o′ : List ℕ} {at′ : ℕ} → a ≡ answer.Read b s → Put o at (readLine i b) o′ at′ 26 → Turned file i (state r m) o at (state s m′) o′ at′
+  pub turned-read : {b : ℕ} {s : Registers} {o′ : List ℕ} {at′ : ℕ} → a ≡ answer.Read s b → Put o at (readLine i b) o′ at′ 26 → Turned file i (state r m) o at (state s m′) o′ at′
   unfolding lineOf
-  turned-read {b} {s} e p = turned (answer.Read b s) e refl (put-most (omega arith) p)
+  turned-read {b} {s} e p = turned (answer.Read s b) e refl (put-most (omega arith) p)
 
   pub turned-refused : {n : ℕ} {o′ : List ℕ} {at′ : ℕ} → a ≡ answer.Refused n → Put o at (refusalLine i n) o′ at′ 44 → Turned file i (state r m) o at (state r m′) o′ at′
   unfolding lineOf

@@ -1,10 +1,9 @@
--- `glass::bit::bit_of` meets its contract: no bit from 8 on, and below that the byte divided by what the bit counts.
+-- `glass::bit::bit_of` meets its contract: no bit from 8 on, and below that the byte shifted down by the bit.
 -- Assumes nothing.
 use mathlib.Core.Path.{sym}
-use native.Mathlib.Omega.{arith}
 use borrow.Author.Needs.{needs}
 use Rattle.glass.specs.Bit.{bitOf}
-use Rattle.glass.proofs.Bits.{positive, no-bit}
+use Rattle.glass.proofs.Bits.{no-bit}
 use Rattle.glass.proofs.bit.bit_of.Statement.{statement}
 use Rattle.glass.proofs.bit.bit_of.Tie as tie
 
@@ -14,6 +13,6 @@ bit-of-spec =
     tie.close
     (tie.spec
     (λ c. let p = c .before in sym (no-bit (p .args .byte) (p .args .b) (search needs) (c .if1 .taken)))
-    (λ c κs. search needs)
-    (λ c. omega (arith, positive (c .before .before .args .b), c .power-of .ensures))
-    (λ c. rw (c .power-of .ensures)))
+    (λ c. search needs)
+    (λ c. search needs)
+    (λ c. search needs))

@@ -30,7 +30,7 @@ turn-spec =
     (λ c. turned-status _ _ _ _ _ _ (c .before .before .before .before .before .before .before .before .before .cycle .ensures) (c .before .before .before .before .before .byte .given .1) (c .before .before .put-read .ensures))
     (λ c. search needs)
     (λ c. search needs)
-    (λ c. turned-read _ _ _ _ _ _ (c .before .before .before .before .before .before .before .before .before .cycle .ensures) (c .before .before .before .before .before .byte2 .given .1) (c .before .before .put-read2 .ensures))
+    (λ c. turned-read _ _ _ _ _ _ (c .before .before .before .before .before .before .before .before .before .cycle .ensures) (c .before .before .before .before .before .next2 .given .1) (c .before .before .put-read2 .ensures))
     (λ c. search needs)
     (λ c. search needs)
     (λ c. turned-refused _ _ _ _ _ _ (c .before .before .before .before .before .before .before .before .before .cycle .ensures) (c .before .before .before .before .before .number .given .1) (c .before .before .put-refusal .ensures)))

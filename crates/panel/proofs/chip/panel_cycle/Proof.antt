@@ -38,7 +38,7 @@ panel-cycle-spec =
     (λ c. search needs)
     (λ c. record {
       answer = Read _ _;
-      promised = rw (c .before .before .holder .given .1) at (c .before .before .before .before .before .before .cycle-on .ensures);
+      promised = rw (c .before .before .after2 .given .1) at (c .before .before .before .before .before .before .cycle-on .ensures);
       number = refl;
       state-left = c .pack2 .ensures;
       read-left = refl;

@@ -1,4 +1,5 @@
 // The controller: each instruction once, with every register printed, and page 9.
+use crate::buffers::zeros;
 use crate::print::byte;
 use crate::print::flag;
 use crate::print::line;
@@ -103,11 +104,6 @@ fn addressed(registers: Registers) -> Registers {
 fn second(registers: Registers, byte: u8, value: u8) -> Registers {
     let awaiting = instruct(registers, byte);
     instruct(awaiting, value)
-}
-
-// A memory of zeros.
-fn zeros() -> [u8; 1188] {
-    [0; 1188]
 }
 
 // One instruction of one byte: the registers after it.

@@ -1,5 +1,6 @@
 // The glass: frames of one lit bit, of icons, reversed, entire and off; power states; V0.
 ghost use Prim.Native.Nat.{_+_, _<_, _≤_};
+use crate::buffers::zeros;
 use crate::print::byte;
 use crate::print::line;
 use crate::print::number;
@@ -16,14 +17,10 @@ use glass::voltage::v0;
 
 // Zeros but for line 0, column 0, and page 8's byte at column 0, of which only bit 0 is shown.
 fn spotted() -> [u8; 1188] {
-    let mut memory = [0u8; 1188];
+    let mut memory = zeros();
     memory[0] = 1;
     memory[1056] = 0xff;
     memory
-}
-
-fn blank() -> [u8; 1188] {
-    [0; 1188]
 }
 
 // How many bytes of a frame are not 0, and the first of them with its place.
@@ -73,7 +70,7 @@ fn summary(frame: &[u8; 1188]) {
 }
 
 fn drawn(registers: Registers, memory: &[u8]) {
-    let mut out = blank();
+    let mut out = zeros();
     match frame(registers, memory, &mut out) {
         Shown::Drawn => summary(&out),
         Shown::Refused(n) => {

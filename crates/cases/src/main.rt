@@ -1,4 +1,5 @@
 // Document 01's cases that are run, and one case for each instruction: the output is compared with `stdout`.
+mod buffers;
 mod chip;
 mod glass_cases;
 mod print;

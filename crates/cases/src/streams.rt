@@ -1,4 +1,6 @@
 // The planner: the longest update, and room for a redraw.
+use crate::buffers::ones;
+use crate::buffers::zeros;
 use crate::print::byte;
 use crate::print::line;
 use crate::print::number;
@@ -9,14 +11,6 @@ use planner::first::first_difference;
 use planner::length::update_length;
 use planner::redraw::redraw;
 use planner::update::update;
-
-fn zeros() -> [u8; 1188] {
-    [0; 1188]
-}
-
-fn ones() -> [u8; 1188] {
-    [255; 1188]
-}
 
 fn answer(count: Count) {
     match count {

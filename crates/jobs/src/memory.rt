@@ -5,8 +5,11 @@ ghost use Prim.Native.Nat.{_+_, _*_, min};
 ghost use lib.ListN.{length, getD, replicate};
 ghost use Rattle.jobs.specs.Memory.{filledUp, startMemory};
 
+// What a chip's memory holds.
+pub type Memory = [u8; 1188];
+
 // A memory of zeros. It stands in a function of its own, so that its bytes are not computed where it is used.
-fn blank() -> [u8; 1188]
+fn blank() -> Memory
     ensures { λ r. ⌜ (1188 ≡ length r) × (r ≡ replicate 1188 0) ⌝ }
 {
     [0; 1188]
@@ -20,7 +23,7 @@ fn byte_at(bytes: &[u8], i: usize) -> u8
 }
 
 // The first 1,188 bytes, 0 where there are none.
-fn load(bytes: &[u8]) -> [u8; 1188]
+fn load(bytes: &[u8]) -> Memory
     ensures { λ r. ⌜ (1188 ≡ length r) × (r ≡ filledUp 1188 (now (bytes .entry))) ⌝ }
 {
     let mut memory = blank();
@@ -46,7 +49,7 @@ fn pictures_from(total: usize, cycles: usize) -> usize
 }
 
 // The memory at power-up: picture 1, or zeros. Bytes that a file does not have are 0.
-pub fn start_memory(file: &[u8], job: Job) -> [u8; 1188]
+pub fn start_memory(file: &[u8], job: Job) -> Memory
     ensures { λ r. ⌜ (1188 ≡ length r) × (r ≡ filledUp 1188 (startMemory (now (file .entry)) job)) ⌝ }
 {
     if job.pictures < 1 {

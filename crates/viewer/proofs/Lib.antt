@@ -1,4 +1,3 @@
-pub mod Playing
 pub mod Showing
 pub mod Sending
 pub mod Words

@@ -10,7 +10,7 @@ use crate::argument::View;
 use crate::argument::argument;
 use crate::draw::glass;
 use crate::draw::pbm;
-use crate::play::play_cycles;
+use crate::play::after;
 use crate::stream::stream;
 use input::read_all;
 use jobs::header::Header;
@@ -24,7 +24,7 @@ fn view_job(view: View, file: &[u8], job: Job) -> bool
     requires { ⌜ Holds (now file) job ⌝ }
 {
     let mut memory = start_memory(file, job);
-    let registers = play_cycles(file, job, &mut memory);
+    let registers = after(file, job, &mut memory);
     match view {
         View::Glass => glass(registers, &memory),
         View::Picture => pbm(registers, &memory),

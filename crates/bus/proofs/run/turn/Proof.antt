@@ -1,20 +1,14 @@
--- `viewer::play::turn` meets its contract: one law for each answer of the cycle.
+-- `bus::run::turn` meets its contract: one law for each answer of the cycle.
 -- Assumes nothing.
 use borrow.Author.Needs.{needs}
-use Rattle.viewer.proofs.Playing.{turned}
-use Rattle.viewer.proofs.play.turn.Statement.{statement}
-use Rattle.viewer.proofs.play.turn.Tie as tie
+use Rattle.bus.proofs.Playing.{turned}
+use Rattle.bus.proofs.run.turn.Statement.{statement}
+use Rattle.bus.proofs.run.turn.Tie as tie
 
 pub turn-spec : {M : Type 1} → statement M
 turn-spec =
     tie.close
     (tie.spec
-    (λ c. search needs)
-    (λ c. search needs)
-    (λ c. search needs)
-    (λ c. search needs)
-    (λ c. search needs)
-    (λ c. search needs)
     (λ c κs. search needs)
     (λ c. search needs)
     (λ c. search needs)

@@ -1,0 +1,33 @@
+-- `viewer::play::after` meets its contract: a run from power-up over the part of the file that holds the cycles.
+-- Assumes nothing.
+use Prim.Native.Nat.{_+_, _*_, _-_}
+use mathlib.Core.Path.{_≡_}
+use native.Mathlib.Omega.{arith}
+use borrow.Author.Needs.{needs}
+use Rattle.instructions.specs.Numbers.{numbers0713}
+use Rattle.instructions.proofs.Sensible.{sensible0713}
+use Rattle.bus.proofs.Playing.{from-power-up, in-range}
+use Rattle.viewer.proofs.play.after.Statement.{statement}
+use Rattle.viewer.proofs.play.after.Tie as tie
+
+returns : tie.Need-returns
+returns c =
+    let at-start = c .before .before .before .before .before in
+    let n = at-start .before .before .before .before .args .job .cycles in
+    let e : 8 + 2 * n - 8 ≡ 2 * n = omega arith in
+    let q = rw e at (c .before .before .run .ensures) in
+    record { after = from-power-up (at-start .power-up .ensures) q; ranged = in-range numbers0713 sensible0713 (at-start .power-up .ensures) q }
+
+pub after-spec : {M : Type 1} → statement M
+after-spec =
+    tie.close
+    (tie.spec
+    (λ c. search needs)
+    (λ c. search needs)
+    (λ c κs. search needs)
+    (λ c. search needs)
+    (λ c. search needs)
+    (λ c. search needs)
+    (λ c κs. search needs)
+    (λ c. search needs)
+    returns)

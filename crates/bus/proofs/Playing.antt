@@ -27,10 +27,12 @@ turned r m x q b e =
 
 -- ---- a turn
 
+-- the two bytes at a place, and the rest
 two : (bytes : List ℕ) (j : ℕ) → suc j < length bytes → drop j bytes ≡ getD bytes j 0 ∷ getD bytes (suc j) 0 ∷ drop (suc (suc j)) bytes
 two bytes j h =
     drop-cons bytes j 0 (omega arith) ∙ ap (λ (l : List ℕ). getD bytes j 0 ∷ l) (drop-cons bytes (suc j) 0 h)
 
+-- fewer than two bytes are no cycle
 few : (bytes : List ℕ) → length bytes ≤ 1 → cyclesOf bytes ≡ []
 unfolding cyclesOf
 few [] h = refl
@@ -71,7 +73,7 @@ module _ (k : Numbers) (g : Sensible k) where
   powered-ranged : (r : Registers) → PoweredUp k r → Ranged k r
   powered-ranged r p = rw (p .tells) (omega (arith, g .wide, g .first))
 
-  -- a run that starts in range ends in range; one from power-up does
+  -- a run that starts in range ends in range, and so does one from power-up
   pub stay-ranged : {r : Registers} {m bytes : List ℕ} {after : Registers} {left : List ℕ} → Ranged k r → IsRun k r m bytes after left → Ranged k after
   stay-ranged {r} {m} {bytes} h q = rw (ap (λ (s : State). s .registers) (q .tells)) (run-ranged (state r m) (cyclesOf bytes) h)
 

@@ -1,8 +1,7 @@
 -- `bus::run::run` meets its contract: before each cycle, the cycles from it on lead to the state after them all.
 -- Assumes nothing.
-use Prim.Native.Nat.{_*_, _/_, _-_, _≤_}
+use Prim.Native.Nat.{_*_, _/_, _-_}
 use mathlib.Core.Path.{_≡_, refl, sym, _∙_}
-use native.Mathlib.Omega.{arith}
 use borrow.Author.Needs.{needs}
 use lib.ListN.{length, drop}
 use Rattle.instructions.specs.Numbers.{numbers0713}
@@ -14,7 +13,7 @@ use Rattle.bus.proofs.run.run.Tie as tie
 
 abbrev Inv-loop : tie.InvT-loop
 Inv-loop memory₀ cycles after₀ i₀ memory after i =
-    (i ≤ length cycles / 2) × (length memory ≡ length memory₀)
+    (length memory ≡ length memory₀)
     × (run numbers0713 (state after memory) (cyclesOf (drop (2 * i) cycles)) ≡ run numbers0713 (state after₀ memory₀) (cyclesOf cycles))
 
 abbrev μ-loop : tie.MeasureT-loop
@@ -25,13 +24,12 @@ loop-again c =
     let at-turn = c .before .before in
     let at-test = at-turn .before .before .before .before in
     let inv = at-test .before .loop .inv in (
-      omega arith,
-      at-turn .turn .kept .1 .0 ∙ inv .1,
-      rw (at-turn .turn .ensures) (sym (run-next _ _ _ _ (at-test .loop-test .taken)) ∙ inv .2),
+      at-turn .turn .kept .1 .0 ∙ inv .0,
+      rw (at-turn .turn .ensures) (sym (run-next _ _ _ _ (at-test .loop-test .taken)) ∙ inv .1),
     )
 
 returns : tie.Need-returns Inv-loop μ-loop
-returns c = record { tells = sym (run-end _ _ _ _ (c .loop-test .left)) ∙ c .before .loop .inv .2 }
+returns c = record { tells = sym (run-end _ _ _ _ (c .loop-test .left)) ∙ c .before .loop .inv .1 }
 
 pub run-spec : {M : Type 1} → statement M
 run-spec =
@@ -39,7 +37,7 @@ run-spec =
     (tie.spec
     Inv-loop
     μ-loop
-    (λ c. (omega arith, refl, refl))
+    (λ c. (refl, refl))
     (λ c. search needs)
     (λ c. search needs)
     (λ c. search needs)
@@ -49,5 +47,5 @@ run-spec =
     (λ c. search needs)
     (λ c. search needs)
     loop-again
-    (λ c. c .before .loop .inv .1)
+    (λ c. c .before .loop .inv .0)
     returns)

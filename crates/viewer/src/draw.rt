@@ -61,21 +61,39 @@ fn write_row(frame: &[u8], row: usize, from: usize, lit: u8, dark: u8, line: &mu
     io::write_all(libc::STDOUT_FILENO, line)
 }
 
-// A row as one line.
-fn draw_row(frame: &[u8], row: usize) -> bool
+// A row drawn: one line.
+fn drawn_row(frame: &[u8], row: usize) -> bool
     requires { ⌜ (length (now frame) ≡ 1188) × (row ≤ 64) ⌝ }
 {
     let mut line = [0u8; 133];
     write_row(frame, row, 0, b'#', b'.', &mut line)
 }
 
+// Half of a row of a PBM picture, which has no line of more than 70 characters.
+fn pbm_half(frame: &[u8], row: usize, from: usize) -> bool
+    requires { ⌜ (length (now frame) ≡ 1188) × (row ≤ 64) × (from ≤ 66) ⌝ }
+{
+    let mut line = [0u8; 67];
+    write_row(frame, row, from, b'1', b'0', &mut line)
+}
+
+// A row drawn, or of a picture: two lines.
+fn one_row(frame: &[u8], row: usize, pbm: bool) -> bool
+    requires { ⌜ (length (now frame) ≡ 1188) × (row ≤ 64) ⌝ }
+{
+    if pbm {
+        return pbm_half(frame, row, 0) & pbm_half(frame, row, 66);
+    }
+    drawn_row(frame, row)
+}
+
 // All 65 rows, as far as they can be written.
-fn draw_rows(frame: &[u8]) -> bool
+fn all_rows(frame: &[u8], pbm: bool) -> bool
     requires { ⌜ length (now frame) ≡ 1188 ⌝ }
 {
     let mut row = 0;
     while row < 65 {
-        if !draw_row(frame, row) {
+        if !one_row(frame, row, pbm) {
             return false;
         }
         row += 1;
@@ -88,36 +106,7 @@ pub(crate) fn glass(registers: Registers, memory: &[u8]) -> bool
     requires { ⌜ Ranged numbers0713 registers × (length (now memory) ≡ 1188) ⌝ }
 {
     let frame = lit_frame(registers, memory);
-    draw_rows(&frame)
-}
-
-// Half of a row: no line of a PBM picture is longer than 70 characters.
-fn pbm_half(frame: &[u8], row: usize, from: usize) -> bool
-    requires { ⌜ (length (now frame) ≡ 1188) × (row ≤ 64) × (from ≤ 66) ⌝ }
-{
-    let mut line = [0u8; 67];
-    write_row(frame, row, from, b'1', b'0', &mut line)
-}
-
-// A row as two lines.
-fn pbm_row(frame: &[u8], row: usize) -> bool
-    requires { ⌜ (length (now frame) ≡ 1188) × (row ≤ 64) ⌝ }
-{
-    pbm_half(frame, row, 0) & pbm_half(frame, row, 66)
-}
-
-// All 65 rows of the picture, as far as they can be written.
-fn pbm_rows(frame: &[u8]) -> bool
-    requires { ⌜ length (now frame) ≡ 1188 ⌝ }
-{
-    let mut row = 0;
-    while row < 65 {
-        if !pbm_row(frame, row) {
-            return false;
-        }
-        row += 1;
-    }
-    true
+    all_rows(&frame, false)
 }
 
 // Writes the glass as a plain PBM picture, and answers whether it could be written.
@@ -125,5 +114,5 @@ pub(crate) fn pbm(registers: Registers, memory: &[u8]) -> bool
     requires { ⌜ Ranged numbers0713 registers × (length (now memory) ≡ 1188) ⌝ }
 {
     let frame = lit_frame(registers, memory);
-    io::write_all(libc::STDOUT_FILENO, b"P1\n132 65\n") & pbm_rows(&frame)
+    io::write_all(libc::STDOUT_FILENO, b"P1\n132 65\n") & all_rows(&frame, true)
 }

@@ -1,19 +1,19 @@
--- `viewer::draw::draw_rows` is safe and ends: there are 65 rows.
+-- `viewer::draw::all_rows` is safe and ends: there are 65 rows.
 -- Assumes nothing.
 use Prim.Native.Nat.{_-_, _≤_}
 use native.Mathlib.Omega.{arith}
 use borrow.Author.Needs.{needs}
-use Rattle.viewer.proofs.draw.draw_rows.Statement.{statement}
-use Rattle.viewer.proofs.draw.draw_rows.Tie as tie
+use Rattle.viewer.proofs.draw.all_rows.Statement.{statement}
+use Rattle.viewer.proofs.draw.all_rows.Tie as tie
 
 abbrev Inv-loop : tie.InvT-loop
-Inv-loop frame row₀ row = row ≤ 65
+Inv-loop frame pbm row₀ row = row ≤ 65
 
 abbrev μ-loop : tie.MeasureT-loop
-μ-loop frame row₀ row = 65 - row
+μ-loop frame pbm row₀ row = 65 - row
 
-pub draw-rows-spec : {M : Type 1} → statement M
-draw-rows-spec =
+pub all-rows-spec : {M : Type 1} → statement M
+all-rows-spec =
     tie.close
     (tie.spec
     Inv-loop

@@ -28,12 +28,16 @@ turned r m x q b e =
 -- ---- a turn
 
 -- the two bytes at a place, and the rest
-two : (bytes : List ℕ) (j : ℕ) → suc j < length bytes → drop j bytes ≡ getD bytes j 0 ∷ getD bytes (suc j) 0 ∷ drop (suc (suc j)) bytes
+pub two : (bytes : List ℕ) (j : ℕ) → suc j < length bytes → drop j bytes ≡ getD bytes j 0 ∷ getD bytes (suc j) 0 ∷ drop (suc (suc j)) bytes
 two bytes j h =
     drop-cons bytes j 0 (omega arith) ∙ ap (λ (l : List ℕ). getD bytes j 0 ∷ l) (drop-cons bytes (suc j) 0 h)
 
--- fewer than two bytes are no cycle
-few : (bytes : List ℕ) → length bytes ≤ 1 → cyclesOf bytes ≡ []
+-- two bytes are a cycle, fewer are none
+pub cycles-next : (kind value : ℕ) (rest : List ℕ) → cyclesOf (kind ∷ value ∷ rest) ≡ (kind, value) ∷ cyclesOf rest
+unfolding cyclesOf
+cycles-next kind value rest = refl
+
+pub few : (bytes : List ℕ) → length bytes ≤ 1 → cyclesOf bytes ≡ []
 unfolding cyclesOf
 few [] h = refl
 few (kind ∷ []) h = refl

@@ -2,12 +2,10 @@
 -- Assumes nothing.
 use Prim.Native.Nat.{ℕ}
 use mathlib.Core.Path.{_≡_}
-use mathlib.Core.Bool.{false}
 use mathlib.Core.List.{List, [], _∷_}
 use Rattle.instructions.specs.declared.numbers.Numbers.{Numbers}
-use Rattle.controller.specs.Registers.{start}
 use Rattle.controller.specs.Run.{BusCycle}
-use Rattle.controller.specs.State.{State, state, run}
+use Rattle.controller.specs.State.{State, state, poweredUp, run}
 use Rattle.controller.specs.declared.registers.Registers.{Registers}
 
 -- two bytes a cycle, kind and value; a last odd byte is no cycle
@@ -22,4 +20,4 @@ pub record IsRun (k : Numbers) (r : Registers) (before cycles : List ℕ) (after
 
 -- the chip after the cycles from power-up with the memory m
 abbrev pub fromPowerUp : Numbers → List ℕ → List ℕ → State
-fromPowerUp k m cycles = run k (state (start k 0 false) m) (cyclesOf cycles)
+fromPowerUp k m cycles = run k (poweredUp k m) (cyclesOf cycles)

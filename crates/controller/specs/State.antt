@@ -9,7 +9,7 @@ use lib.ListN.{length}
 use Rattle.instructions.specs.declared.numbers.Numbers.{Numbers}
 use Rattle.instructions.specs.declared.instruction.Awaited.{Awaited}
 use Rattle.instructions.specs.declared.instruction.Awaited.the-variants as awaited
-use Rattle.controller.specs.Registers.{column, withPage, withColumn, withHolder, withContrast, withIndicator, withIndicatorValue, withAwaited, outside}
+use Rattle.controller.specs.Registers.{column, start, withPage, withColumn, withHolder, withContrast, withIndicator, withIndicatorValue, withAwaited, outside}
 use Rattle.controller.specs.Cycle.{answer, memoryAfter}
 use Rattle.controller.specs.Run.{BusCycle, runBy, numbersBy}
 use Rattle.controller.specs.declared.registers.Registers.{Registers}
@@ -20,6 +20,10 @@ pub record State : Type 0 where
 
 abbrev pub state : Registers → List ℕ → State
 state r m = record { registers = r; memory = m }
+
+-- the chip at power-up, with the memory as lent
+abbrev pub poweredUp : Numbers → List ℕ → State
+poweredUp k m = state (start k 0 false) m
 
 -- the registers after an answer: where it gives none they stay
 abbrev pub afterBy : Registers → Option Registers → Registers

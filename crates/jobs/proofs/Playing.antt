@@ -13,7 +13,7 @@ use Rattle.instructions.specs.Refusal.{shortOutput}
 use Rattle.instructions.specs.Told.{given}
 use Rattle.instructions.specs.Numbers.{numbers0713}
 use Rattle.controller.specs.Cycle.{Outcome, outcome, answer, memoryAfter, Cycled}
-use Rattle.controller.specs.State.{State, state, step, afterBy}
+use Rattle.controller.specs.State.{State, state, poweredUp, step, afterBy}
 use Rattle.controller.specs.declared.registers.Registers.{Registers}
 use Rattle.controller.specs.declared.cycle.Answer.{Answer}
 use Rattle.controller.specs.declared.cycle.Answer.the-variants as answer
@@ -26,7 +26,7 @@ use Rattle.jobs.specs.Header.{cycleAt, picture2, IsHeader}
 use Rattle.jobs.specs.Text.{readLine, refusalLine, badLine, endLine, updateLine}
 use Rattle.jobs.specs.Memory.{startMemory}
 use Rattle.jobs.specs.Play.{lineOf, answerAt, ending, textFrom, powerUp, textBy, textOf, IsPlayed}
-use Rattle.jobs.specs.Output.{Put, Remains, Turned, Holds, poweredUp}
+use Rattle.jobs.specs.Output.{Put, Remains, Turned, Holds}
 use Rattle.jobs.specs.declared.header.Job.{Job}
 use Rattle.jobs.specs.declared.header.Header.{Header}
 use Rattle.jobs.specs.declared.header.Header.the-variants as header
@@ -138,7 +138,7 @@ module _ (file : List ℕ) (j : Job) (h : Holds file j) (two : 2 ≤ j .pictures
 -- ---- the whole text of a job, and of a file
 
 pub good-whole : (file : List ℕ) (j : Job) {m o₀ o o′ u : List ℕ} {at r k n : ℕ} → m ≡ startMemory file j
-    → Remains (textFrom file j (poweredUp m) 0 (j .cycles)) o₀ o at u → Put o at u o′ r k → r ≤ n
+    → Remains (textFrom file j (poweredUp numbers0713 m) 0 (j .cycles)) o₀ o at u → Put o at u o′ r k → r ≤ n
     → Put o₀ 0 (textFrom file j (powerUp file j) 0 (j .cycles)) o′ r n
 good-whole file j e h q b = rw (← e) (remains-end h q b)
 

@@ -5,10 +5,8 @@ use mathlib.Core.Path.{_≡_}
 use mathlib.Core.List.{List, _++_}
 use lib.ListN.{length}
 use lib.Seq.{sets}
-use mathlib.Core.Bool.{false}
 use Rattle.instructions.specs.Numbers.{numbers0713}
-use Rattle.controller.specs.Registers.{start}
-use Rattle.controller.specs.State.{State, state, step}
+use Rattle.controller.specs.State.{State, step}
 use Rattle.controller.specs.declared.registers.Registers.{Registers}
 use Rattle.jobs.specs.Header.{cycleAt}
 use Rattle.jobs.specs.Text.{field, newline, flag, modifyFlag}
@@ -43,7 +41,3 @@ lastFields r = field (flag (r .on)) ++ (field (modifyFlag (r .«modify_read»)) 
 
 abbrev pub flagFields : Registers → List ℕ
 flagFields r = field (flag (r .shl)) ++ (field (flag (r .adc)) ++ (field (flag (r .reverse)) ++ (field (flag (r .entire)) ++ lastFields r)))
-
--- the chip at power-up, with this memory
-abbrev pub poweredUp : List ℕ → State
-poweredUp m = state (start numbers0713 0 false) m

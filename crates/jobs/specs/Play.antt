@@ -2,7 +2,7 @@
 -- Assumes nothing.
 use Prim.Native.Nat.{ℕ, zero, suc}
 use mathlib.Core.Path.{_≡_}
-use mathlib.Core.Bool.{false, cond}
+use mathlib.Core.Bool.{cond}
 use mathlib.Core.Option.{Option, none, some}
 use mathlib.Core.List.{List, [], _++_}
 use lib.ListN.{length, drop}
@@ -10,9 +10,8 @@ use lib.Dec.{ltb, eqb}
 use Rattle.instructions.specs.Refusal.{shortOutput}
 use Rattle.instructions.specs.Told.{Told, given, refused}
 use Rattle.instructions.specs.Numbers.{numbers0713}
-use Rattle.controller.specs.Registers.{start}
 use Rattle.controller.specs.Cycle.{Outcome, answer}
-use Rattle.controller.specs.State.{State, state, step}
+use Rattle.controller.specs.State.{State, poweredUp, step}
 use Rattle.streams.specs.Length.{updateLength}
 use Rattle.jobs.specs.Header.{cycleAt, picture2, headerOf}
 use Rattle.jobs.specs.Memory.{startMemory}
@@ -46,7 +45,7 @@ textFrom file j s i (suc n) = lineOf i (answerAt file i s) ++ textFrom file j (s
 
 -- the chip at power-up
 abbrev pub powerUp : List ℕ → Job → State
-powerUp file j = state (start numbers0713 0 false) (startMemory file j)
+powerUp file j = poweredUp numbers0713 (startMemory file j)
 
 -- the text of a good job, and of any file: a refused one gives the one line `bad` and the number
 unfoldable pub textBy : List ℕ → ℕ → Option Job → List ℕ

@@ -18,11 +18,12 @@ use planner::length::update_length;
 ghost use mathlib.Core.Path.{_≡_};
 ghost use Prim.Native.Nat.{_+_, _*_, _<_, _≤_};
 ghost use lib.ListN.{length};
-ghost use Rattle.controller.specs.State.{state};
+ghost use Rattle.instructions.specs.Numbers.{numbers0713};
+ghost use Rattle.controller.specs.State.{state, poweredUp};
 ghost use Rattle.streams.specs.Length.{updateLength};
 ghost use Rattle.jobs.specs.Header.{picture2};
 ghost use Rattle.jobs.specs.Play.{ending, textFrom, powerUp, textOf, IsPlayed};
-ghost use Rattle.jobs.specs.Output.{Put, Remains, Turned, Holds, poweredUp};
+ghost use Rattle.jobs.specs.Output.{Put, Remains, Turned, Holds};
 
 // The length of the text, or the number of a refusal.
 pub enum Played {
@@ -72,7 +73,7 @@ fn turn(
 // All the cycles, from power-up: what is left to put is the ending.
 fn play_cycles(file: &[u8], job: Job, memory: &mut [u8], out: &mut [u8]) -> After
     requires { ⌜ Holds (now file) job ⌝ }
-    ensures { λ a. ⌜ Remains (textFrom (now (file .entry)) job (poweredUp (now (memory .entry))) 0 (job .cycles)) (now (out .entry)) (now (out .exit)) (a .at)
+    ensures { λ a. ⌜ Remains (textFrom (now (file .entry)) job (poweredUp numbers0713 (now (memory .entry))) 0 (job .cycles)) (now (out .entry)) (now (out .exit)) (a .at)
         (ending (now (file .entry)) job (state (a .registers) (now (memory .exit)))) × (a .at ≤ 704000) ⌝ }
 {
     let mut after = After {

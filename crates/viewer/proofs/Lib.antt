@@ -1,3 +1,4 @@
+pub mod Cycles
 pub mod Showing
 pub mod Sending
 pub mod Words

@@ -1,12 +1,15 @@
 -- `viewer::play::after` meets its contract: a run from power-up over the part of the file that holds the cycles.
 -- Assumes nothing.
 use Prim.Native.Nat.{_+_, _*_, _-_}
-use mathlib.Core.Path.{_≡_}
+use mathlib.Core.Path.{_≡_, ap, _∙_}
 use native.Mathlib.Omega.{arith}
 use borrow.Author.Needs.{needs}
+use denote.Ref.{now}
 use Rattle.instructions.specs.Numbers.{numbers0713}
 use Rattle.instructions.proofs.Sensible.{sensible0713}
+use Rattle.controller.specs.State.{poweredUp, run}
 use Rattle.bus.proofs.Playing.{from-power-up, in-range}
+use Rattle.viewer.proofs.Cycles.{same-cycles}
 use Rattle.viewer.proofs.play.after.Statement.{statement}
 use Rattle.viewer.proofs.play.after.Tie as tie
 
@@ -16,7 +19,11 @@ returns c =
     let n = at-start .before .before .before .before .args .job .cycles in
     let e : 8 + 2 * n - 8 ≡ 2 * n = omega arith in
     let q = rw e at (c .before .before .run .ensures) in
-    record { after = from-power-up (at-start .power-up .ensures) q; ranged = in-range numbers0713 sensible0713 (at-start .power-up .ensures) q }
+    let held = at-start .before .before .before .before in
+    record {
+      after = from-power-up (at-start .power-up .ensures) q ∙ ap (run numbers0713 (poweredUp numbers0713 _)) (same-cycles (now (held .args .file)) 0 n (omega (arith, held .pre .whole)));
+      ranged = in-range numbers0713 sensible0713 (at-start .power-up .ensures) q;
+    }
 
 pub after-spec : {M : Type 1} → statement M
 after-spec =

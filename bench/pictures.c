@@ -46,7 +46,7 @@ void draw_change(enum change change, uint8_t *recorded, uint8_t *wanted)
     for (size_t i = 0; i < PICTURE; i++) {
         unsigned page = i / WIDTH, column = i % WIDTH;
         if (change == ICONS && page == 8 && column % 20 < 10 && column < 80) wanted[i] ^= 1;
-        if (change == SPARSE && some() % 40 == 0) wanted[i] ^= 1;
+        if (change == SPARSE && some() % 10 == 0) wanted[i] ^= 1;
         if (change == FULL) wanted[i] = (uint8_t)~recorded[i];
     }
     if (change == SETPOINT) write_number(wanted, 3, 100, 220);

@@ -19,15 +19,15 @@ struct Tally {
     anew: usize,
 }
 
-// What a gap costs, or the two column bytes of a new stretch.
+// What a gap costs: its columns written again, or the two column bytes of a new stretch.
 fn gap_cost(gap: usize) -> usize
     ensures { λ r. ⌜ r ≡ min gap 2 ⌝ }
 {
     if gap < 2 { gap } else { 2 }
 }
 
-// One column more. One that differs costs its own byte, and min(gap, 2) for the equal columns since
-// the last one.
+// One column more. One that differs costs its own byte, and min(gap, 2) for the columns since the
+// last one that did: they are column + 2 - anew, and 2 or more where none has differed yet.
 fn count_column(
     recorded: &[u8],
     wanted: &[u8],
@@ -51,7 +51,7 @@ fn count_column(
     tally
 }
 
-// The bytes of one page's work.
+// The bytes of one page's work: none, or those of its columns and the page byte.
 fn page_length(recorded: &[u8], wanted: &[u8], width: usize, page: usize) -> usize
     requires { ⌜ Pictures width (now recorded) (now wanted) × (page < 9) ⌝ }
     ensures { λ r. ⌜ r ≡ pageLength (differs width (now (recorded .entry)) (now (wanted .entry)) page) width ⌝ }

@@ -6,6 +6,7 @@
 
 int printf(const char *, ...);
 void *memcpy(void *, const void *, size_t);
+void exit(int);
 void _exit(int);
 
 struct timespec { long tv_sec, tv_nsec; };
@@ -16,5 +17,5 @@ int fork(void);
 int raise(int);
 int waitpid(int, int *, int);
 long ptrace(int, int, void *, void *);
-enum { PTRACE_TRACEME = 0, PTRACE_SINGLESTEP = 9, SIGTRAP = 5, SIGSTOP = 19 };
+enum { PTRACE_TRACEME = 0, PTRACE_CONT = 7, PTRACE_SINGLESTEP = 9, SIGTRAP = 5, SIGSTOP = 19 };
 #endif

@@ -2,9 +2,6 @@
 
 struct desk desk;
 
-/* of libbus.a: plays a list of cycles from power-up and answers the column counter after them */
-uint8_t bus_column(uint8_t *memory, size_t memory_length, const uint8_t *cycles, size_t cycles_length);
-
 /* the model's calls once more, under the names of fast.h */
 __typeof__(model_power_up) fast_power_up;
 __typeof__(model_cycle) fast_cycle;

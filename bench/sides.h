@@ -2,6 +2,7 @@
    the same list of calls on the same buffers, so that a count or a time differs by the call alone. */
 #ifndef SIDES_H
 #define SIDES_H
+#include "bus.h"
 #include "model.h"
 #include "panel.h"
 

@@ -1,5 +1,6 @@
 /* Compares every call of the proved library with the independent model on seeded input, good and damaged.
    usage: differ CASES CYCLES; status 0 where nothing differs and every refusal number was seen, else 1. */
+#include "bus.h"
 #include "model.h"
 #include "panel.h"
 
@@ -154,6 +155,31 @@ static void bytes(void)
     }
 }
 
+static void some_cycle(uint8_t *kind, uint8_t *value)
+{
+    static const uint8_t often[8] = { 0x81, 0xAD, 0xE0, 0xEE, 0xE2, 0xB8, 0x18, 0x03 };
+    *kind = below(20) ? below(4) : below(8), *value = rnd();
+    if (*kind == 0 && below(3) == 0) *value = often[below(8)];
+    if (*kind >= 2 && below(20)) *value = 0;
+}
+
+/* a list of cycles from power-up, at times with an odd byte behind it */
+static void lists(void)
+{
+    enum { MOST = 60 };
+    static uint8_t m1[ROOM], m2[ROOM], list[2 * MOST + 1];
+    struct model_registers r;
+    uint8_t g = 7, b = 5;
+    size_t n = below(MOST + 1), odd = below(2), length = below(20) ? N : below(ROOM);
+    for (int i = 0; i < ROOM; i++) m1[i] = m2[i] = rnd();
+    for (size_t i = 0; i < n; i++) some_cycle(&list[2 * i], &list[2 * i + 1]);
+    list[2 * n] = rnd();
+    model_power_up(&r);
+    for (size_t i = 0; i < n; i++) model_cycle(&r, m2, length, list[2 * i], list[2 * i + 1], &g, &b);
+    uint8_t column = bus_column(m1, length, list, 2 * n + odd);
+    same("bus_column", column == r.column && !memcmp(m1, m2, ROOM));
+}
+
 /* one cycle, from the state that the last one left or from another, in range or not */
 static void cycles(long count)
 {
@@ -165,10 +191,8 @@ static void cycles(long count)
     same("power_up", !memcmp(s, &r, sizeof r) && !spare(s));
     for (int i = 0; i < ROOM; i++) m1[i] = m2[i] = rnd();
     for (long i = 0; i < count; i++) {
-        static const uint8_t often[8] = { 0x81, 0xAD, 0xE0, 0xEE, 0xE2, 0xB8, 0x18, 0x03 };
-        uint8_t kind = below(20) ? below(4) : below(8), value = rnd();
-        if (kind == 0 && below(3) == 0) value = often[below(8)];
-        if (kind >= 2 && below(20)) value = 0;
+        uint8_t kind, value;
+        some_cycle(&kind, &value);
         if (below(16) == 0) {
             if (below(2)) any_state(s); else good_state(s);
             to_model(&r, s);
@@ -195,6 +219,7 @@ int main(int argc, char **argv)
     bytes();
     for (long i = 0; i < n && differences < 5; i++) streams();
     for (long i = 0; i < n / 4 && differences < 5; i++) frames();
+    for (long i = 0; i < n / 4 && differences < 5; i++) lists();
     if (differences < 5) cycles(c);
     int missing = 0;
     for (int i = 0; i < 7; i++) if (!numbers[must[i]]) { printf("refusal %d never occurred\n", must[i]); missing = 1; }

@@ -8,11 +8,11 @@ use lib.ListN.{length, getD, drop, length-drop}
 use lib.Seq.{drop-cons}
 use Rattle.instructions.specs.Numbers.{Sensible, numbers0713}
 use Rattle.instructions.specs.declared.numbers.Numbers.{Numbers}
-use Rattle.controller.specs.Registers.{Ranged, PoweredUp}
+use Rattle.registers.specs.Registers.{Ranged, PoweredUp}
+use Rattle.registers.specs.declared.Registers.{Registers}
 use Rattle.controller.specs.Cycle.{Outcome, outcome, answer, memoryAfter, Cycled}
 use Rattle.controller.specs.State.{State, state, afterBy, step, run}
 use Rattle.controller.specs.Run.{BusCycle}
-use Rattle.controller.specs.declared.registers.Registers.{Registers}
 use Rattle.controller.specs.declared.cycle.Answer.{Answer}
 use Rattle.controller.proofs.Ranges.{stays-ranged}
 use Rattle.bus.specs.Cycles.{cyclesOf, IsRun, fromPowerUp}

@@ -4,8 +4,8 @@ use Prim.Native.Nat.{ℕ}
 use mathlib.Core.Path.{_≡_, _∙_, ap, sym}
 use mathlib.Core.List.{List}
 use Rattle.instructions.specs.declared.numbers.Numbers.{Numbers}
+use Rattle.registers.specs.declared.Registers.{Registers}
 use Rattle.controller.specs.State.{State, state}
-use Rattle.controller.specs.declared.registers.Registers.{Registers}
 use Rattle.bus.specs.Cycles.{IsRun}
 use Rattle.bus.specs.Column.{IsColumn}
 

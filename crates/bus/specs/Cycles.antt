@@ -4,9 +4,9 @@ use Prim.Native.Nat.{ℕ}
 use mathlib.Core.Path.{_≡_}
 use mathlib.Core.List.{List, [], _∷_}
 use Rattle.instructions.specs.declared.numbers.Numbers.{Numbers}
+use Rattle.registers.specs.declared.Registers.{Registers}
 use Rattle.controller.specs.Run.{BusCycle}
 use Rattle.controller.specs.State.{State, state, poweredUp, run}
-use Rattle.controller.specs.declared.registers.Registers.{Registers}
 
 -- two bytes a cycle, kind and value; a last odd byte is no cycle
 unfoldable pub cyclesOf : List ℕ → List BusCycle

@@ -2,7 +2,7 @@
 ghost use Rattle.instructions.specs.Numbers.{numbers0713};
 ghost use Rattle.bus.specs.Column.{IsColumn};
 use crate::run::run;
-use controller::start::power_up;
+use registers::start::power_up;
 
 // Plays the cycles from power-up on the lent memory, and answers the column counter at the end. Refuses nothing.
 #[no_mangle]

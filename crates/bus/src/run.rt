@@ -5,7 +5,7 @@ ghost use Rattle.controller.specs.State.{state, step};
 ghost use Rattle.bus.specs.Cycles.{IsRun};
 use controller::cycle::Answer;
 use controller::cycle::cycle;
-use controller::registers::Registers;
+use registers::Registers;
 
 // One cycle: the registers after it. A refused one changes nothing.
 fn turn(registers: Registers, memory: &mut [u8], kind: u8, value: u8) -> Registers

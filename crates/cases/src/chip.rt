@@ -6,10 +6,10 @@ use crate::print::line;
 use crate::print::word;
 use controller::cycle::Answer;
 use controller::cycle::cycle;
-use controller::registers::ModifyRead;
-use controller::registers::Registers;
-use controller::start::power_up;
 use instructions::instruction::Awaited;
+use registers::ModifyRead;
+use registers::Registers;
+use registers::start::power_up;
 
 fn saved(mode: ModifyRead) {
     match mode {

@@ -5,8 +5,6 @@ use crate::print::byte;
 use crate::print::line;
 use crate::print::number;
 use crate::print::word;
-use controller::registers::Registers;
-use controller::start::power_up;
 use glass::frame::Shown;
 use glass::frame::frame;
 use glass::power::PowerState;
@@ -14,6 +12,8 @@ use glass::power::Powered;
 use glass::power::power_state;
 use glass::voltage::Voltage;
 use glass::voltage::v0;
+use registers::Registers;
+use registers::start::power_up;
 
 // Zeros but for line 0, column 0, and page 8's byte at column 0, of which only bit 0 is shown.
 fn spotted() -> [u8; 1188] {

@@ -13,15 +13,16 @@ use Rattle.instructions.specs.Read.{readOf}
 use Rattle.instructions.specs.declared.numbers.Numbers.{Numbers}
 use Rattle.instructions.specs.declared.instruction.Instruction.{Instruction}
 use Rattle.instructions.proofs.Fits.{read-fits}
-use Rattle.controller.specs.Registers.{Ranged}
+use Rattle.registers.specs.Registers.{Ranged}
+use Rattle.registers.specs.declared.Registers.{Registers}
+use Rattle.registers.proofs.InRange.{ranged, ranges}
 use Rattle.controller.specs.Execute.{executed}
 use Rattle.controller.specs.Memory.{stored}
 use Rattle.controller.specs.Cycle.{done, written, malformed, refusal, carried, kept, answer, memoryAfter}
 use Rattle.controller.specs.Run.{BusCycle}
 use Rattle.controller.specs.State.{State, state, afterBy, step, number, Restartable}
-use Rattle.controller.specs.declared.registers.Registers.{Registers}
 use Rattle.controller.proofs.Cells.{stored-length}
-use Rattle.controller.proofs.Ranges.{ranged, ranges, executed-ranged, executed-pin, stays-ranged}
+use Rattle.controller.proofs.Ranges.{executed-ranged, executed-pin, stays-ranged}
 
 module _ {k : Numbers} {s : State} (h : Restartable k s) where
   -- no number before 4

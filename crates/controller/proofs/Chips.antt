@@ -18,13 +18,13 @@ use Rattle.instructions.specs.declared.instruction.Instruction.the-variants.{Co
 use Rattle.instructions.proofs.Sensible.{sensible0713}
 use Rattle.instructions.proofs.Fields.{field-given}
 use Rattle.instructions.proofs.ReadBack.{read-back}
-use Rattle.controller.specs.Registers.{column, withContrast, withIndicator, withIndicatorValue, withAwaited}
+use Rattle.registers.specs.Registers.{column, withContrast, withIndicator, withIndicatorValue, withAwaited}
+use Rattle.registers.specs.declared.Registers.{Registers}
 use Rattle.controller.specs.Execute.{executed}
 use Rattle.controller.specs.Memory.{stored}
 use Rattle.controller.specs.Cycle.{written}
 use Rattle.controller.specs.State.{State, state, step, number, Restartable, Ready, placed, rest, settings, indicatorAwaited}
 use Rattle.controller.specs.Chip.{View, Chip, Restart, dataCycle, nopCycle, askCycle, onColumn, withRest, wrote}
-use Rattle.controller.specs.declared.registers.Registers.{Registers}
 use Rattle.controller.proofs.Cells.{advanced-below}
 use Rattle.controller.proofs.Acting.{acts, writes}
 

@@ -14,9 +14,9 @@ use Rattle.instructions.specs.Read.{readOf}
 use Rattle.instructions.specs.declared.numbers.Numbers.{Numbers}
 use Rattle.instructions.specs.declared.instruction.Instruction.{Instruction}
 use Rattle.instructions.proofs.Fits.{either, Proper, read-proper}
-use Rattle.controller.specs.Registers.{outside}
+use Rattle.registers.specs.Registers.{outside}
+use Rattle.registers.specs.declared.Registers.{Registers}
 use Rattle.controller.specs.Cycle.{Outcome, done, statusRead, dataRead, refusedWith, instructedBy, carried, malformed, heldLow, refusal, answer}
-use Rattle.controller.specs.declared.registers.Registers.{Registers}
 use Rattle.controller.proofs.Ranges.{cond-le}
 
 pub record Numbered (o : Outcome) : Type 0 where

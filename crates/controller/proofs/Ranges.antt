@@ -1,14 +1,14 @@
 -- Every cycle keeps the registers in range, the memory's length, and, pin cycles aside, the pin.
 -- Assumes nothing.
 use Prim.Native.Nat.{ℕ, _+_, _*_, _≤_, _<_}
-use mathlib.Core.Path.{_≡_, refl, subst}
-use mathlib.Core.Bool.{Bool, true, false, cond, not, _||_}
+use mathlib.Core.Path.{_≡_, refl}
+use mathlib.Core.Bool.{Bool, true, false, cond, not}
 use mathlib.Core.Option.{Option, none, some}
 use mathlib.Core.List.{List}
 use native.Mathlib.Omega.{arith}
 use lib.ListN.{length}
-use lib.Dec.{T, ltb, leb, eqb}
-use borrow.Author.Tests.{le-ltb, lt-leb, ltb-true, ltb-false, leb-false, eqb-true}
+use lib.Dec.{ltb, eqb}
+use borrow.Author.Tests.{ltb-true, eqb-true}
 use Rattle.instructions.specs.Refusal.{wrongSize}
 use Rattle.instructions.specs.Numbers.{Sensible}
 use Rattle.instructions.specs.Read.{readOf}
@@ -17,14 +17,14 @@ use Rattle.instructions.specs.declared.instruction.Instruction.{Instruction}
 use Rattle.instructions.specs.declared.instruction.Instruction.the-variants.{ColumnLow, ColumnHigh, Resistor, Power, StartLine, ContrastNext, ContrastValue, Adc, Bias, Entire, Reverse, IndicatorOff, IndicatorOn, IndicatorValue, Display, Page, Shl, ModifyReadOn, ModifyReadOff, Reset, Nop}
 use Rattle.instructions.proofs.Fields.{in-field}
 use Rattle.instructions.proofs.Fits.{either, Fits, Proper, read-proper}
-use Rattle.controller.specs.Registers.{outside, savedOf, Ranged}
+use Rattle.registers.specs.Registers.{savedOf, Ranged}
+use Rattle.registers.specs.declared.ModifyRead.{ModifyRead}
+use Rattle.registers.specs.declared.ModifyRead.the-variants.{Off, On}
+use Rattle.registers.specs.declared.Registers.{Registers}
 use Rattle.controller.specs.Execute.{saved, restored, executed}
 use Rattle.controller.specs.Memory.{advanced}
 use Rattle.controller.specs.Cycle.{Outcome, written, afterRead, instructedBy, carried, kept, refusal, answer, memoryAfter}
 use Rattle.controller.specs.State.{afterBy}
-use Rattle.controller.specs.declared.registers.ModifyRead.{ModifyRead}
-use Rattle.controller.specs.declared.registers.ModifyRead.the-variants.{Off, On}
-use Rattle.controller.specs.declared.registers.Registers.{Registers}
 use Rattle.controller.proofs.Cells.{stored-length}
 
 -- ---- bounds that the code asks for
@@ -41,50 +41,6 @@ passed false x e = absurd (let z : _≡_ {A = ℕ} 1 0 = e in omega arith)
 pub long : (k : Numbers) (n : ℕ) (r : Registers) (kind value : ℕ) → refusal k n r kind value ≡ 0 → n ≡ 9 * k .width
 unfolding refusal
 long k n r kind value e = eqb-true n (9 * k .width) (passed (eqb n (9 * k .width)) _ e)
-
--- ---- in range, as one test and range by range
-
--- eight tests of which none holds
-none-of : (a b c d e f g h : Bool) → a || b || c || d || e || f || g || h ≡ false
-    → (a ≡ false) × (b ≡ false) × (c ≡ false) × (d ≡ false) × (e ≡ false) × (f ≡ false) × (g ≡ false) × (h ≡ false)
-none-of false false false false false false false false p = (refl, refl, refl, refl, refl, refl, refl, refl)
-none-of true b c d e f g h p = absurd (subst T p tt)
-none-of false true c d e f g h p = absurd (subst T p tt)
-none-of false false true d e f g h p = absurd (subst T p tt)
-none-of false false false true e f g h p = absurd (subst T p tt)
-none-of false false false false true f g h p = absurd (subst T p tt)
-none-of false false false false false true g h p = absurd (subst T p tt)
-none-of false false false false false false true h p = absurd (subst T p tt)
-none-of false false false false false false false true p = absurd (subst T p tt)
-
-pub ranged : (k : Numbers) (r : Registers) → Ranged k r → outside k r ≡ false
-unfolding outside
-ranged k r g =
-    simp (
-      le-ltb 15 (r .page) (omega arith),
-      lt-leb (k .highs * 16) (r .column .0) (omega arith),
-      le-ltb 63 (r .«start_line») (omega arith),
-      le-ltb 63 (r .contrast) (omega arith),
-      le-ltb 7 (r .resistor) (omega arith),
-      le-ltb 7 (r .power) (omega arith),
-      le-ltb 3 (r .«indicator_value») (omega arith),
-      lt-leb (k .highs * 16) (savedOf (r .«modify_read»)) (omega arith),
-    )
-
-pub ranges : (k : Numbers) (r : Registers) → outside k r ≡ false → Ranged k r
-unfolding outside
-ranges k r e =
-    let f = none-of (ltb 15 (r .page)) (leb (k .highs * 16) (r .column .0)) (ltb 63 (r .«start_line»)) (ltb 63 (r .contrast)) (ltb 7 (r .resistor)) (ltb 7 (r .power)) (ltb 3 (r .«indicator_value»)) (leb (k .highs * 16) (savedOf (r .«modify_read»))) e in
-    record {
-      page = omega (arith, ltb-false 15 (r .page) (f .0));
-      column = omega (arith, leb-false (k .highs * 16) (r .column .0) (f .1));
-      start-line = omega (arith, ltb-false 63 (r .«start_line») (f .2));
-      contrast = omega (arith, ltb-false 63 (r .contrast) (f .3));
-      resistor = omega (arith, ltb-false 7 (r .resistor) (f .4));
-      power = omega (arith, ltb-false 7 (r .power) (f .5));
-      indicator-value = omega (arith, ltb-false 3 (r .«indicator_value») (f .6));
-      saved = omega (arith, leb-false (k .highs * 16) (savedOf (r .«modify_read»)) (f .7));
-    }
 
 -- ---- an instruction inside its fields
 

@@ -20,7 +20,12 @@ use Rattle.instructions.specs.declared.instruction.Instruction.{Instruction}
 use Rattle.instructions.specs.declared.instruction.Instruction.the-variants.{ColumnLow, ColumnHigh, Page, ModifyReadOn, ModifyReadOff}
 use Rattle.instructions.proofs.Fields.{field-given}
 use Rattle.instructions.proofs.Fits.{either}
-use Rattle.controller.specs.Registers.{outside, withModifyRead, withHolder, withPinLow, start}
+use Rattle.registers.specs.Registers.{outside, withModifyRead, withHolder, withPinLow, start}
+use Rattle.registers.specs.declared.Column.{Column}
+use Rattle.registers.specs.declared.ModifyRead.{ModifyRead}
+use Rattle.registers.specs.declared.ModifyRead.the-variants.{Off, On}
+use Rattle.registers.specs.declared.Registers.{Registers}
+use Rattle.registers.proofs.InRange.{ranged, ranges}
 use Rattle.controller.specs.Execute.{executed}
 use Rattle.controller.specs.Memory.{loaded, advanced}
 use Rattle.controller.specs.Cycle.{Outcome, dataRead, instructedBy, written, afterRead, refusal, carried, kept, answer, memoryAfter}
@@ -28,12 +33,8 @@ use Rattle.controller.specs.Run.{BusCycle}
 use Rattle.controller.specs.Chip.{pageCycle, highCycle, lowCycle, dataCycle}
 use Rattle.controller.specs.State.{State, state, afterBy, step, number, run, Restartable, Ready, placed}
 use Rattle.controller.specs.ReadBack.{bytesRead, cellsFrom}
-use Rattle.controller.specs.declared.registers.Column.{Column}
-use Rattle.controller.specs.declared.registers.ModifyRead.{ModifyRead}
-use Rattle.controller.specs.declared.registers.ModifyRead.the-variants.{Off, On}
-use Rattle.controller.specs.declared.registers.Registers.{Registers}
 use Rattle.controller.proofs.Cells.{past-columns, stored-none, advanced-below, advanced-locked}
-use Rattle.controller.proofs.Ranges.{ranged, stays-ranged, ranges}
+use Rattle.controller.proofs.Ranges.{stays-ranged}
 use Rattle.controller.proofs.Acting.{carries, keeps, writes}
 use Rattle.controller.proofs.Chips.{obeys, still, written-ready}
 

@@ -9,10 +9,10 @@ use mathlib.Core.List.{List}
 use native.Mathlib.Omega.{arith}
 use lib.ListN.{length}
 use Rattle.instructions.specs.Numbers.{numbers0713}
-use Rattle.controller.specs.Registers.{outside, withAdc, start}
+use Rattle.registers.specs.Registers.{outside, withAdc, start}
+use Rattle.registers.specs.declared.Registers.{Registers}
 use Rattle.controller.specs.Cycle.{outcome, status, carried, Cycled}
 use Rattle.controller.specs.State.{state, Restartable}
-use Rattle.controller.specs.declared.registers.Registers.{Registers}
 use Rattle.controller.specs.declared.cycle.Answer.{Answer}
 use Rattle.controller.proofs.Acting.{carries}
 

@@ -17,9 +17,9 @@ use Rattle.instructions.specs.declared.instruction.Instruction.{Instruction}
 use Rattle.instructions.proofs.Telling.{apart}
 use Rattle.instructions.proofs.Fits.{either}
 use Rattle.instructions.proofs.Unique.{read-none, read-some}
-use Rattle.controller.specs.Registers.{outside, PoweredUp}
+use Rattle.registers.specs.Registers.{outside}
+use Rattle.registers.specs.declared.Registers.{Registers}
 use Rattle.controller.specs.Cycle.{Outcome, outcome, refusedWith, instructed, instructedBy, malformed, heldLow, unread, refusal, carried, cycleNumber, answer, Cycled}
-use Rattle.controller.specs.declared.registers.Registers.{Registers}
 use Rattle.controller.specs.declared.cycle.Answer.{Answer}
 use Rattle.controller.specs.declared.cycle.Answer.the-variants.{Done, Status, Read, Refused}
 
@@ -45,9 +45,6 @@ back-is (Refused n) = refl
 pub cycled-one : {k : Numbers} {r : Registers} {m : List ℕ} {kind value : ℕ} {a b : Answer} {left right : List ℕ}
     → Cycled k r m kind value a left → Cycled k r m kind value b right → (a ≡ b) × (left ≡ right)
 cycled-one {a = a} {b = b} f g = (apart outcome back back-is a b (f .tells ∙ sym (g .tells)), f .leaves ∙ sym (g .leaves))
-
-pub powered-one : {k : Numbers} {r s : Registers} → PoweredUp k r → PoweredUp k s → r ≡ s
-powered-one f g = f .tells ∙ sym (g .tells)
 
 -- ---- its number
 

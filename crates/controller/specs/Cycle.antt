@@ -12,12 +12,12 @@ use Rattle.instructions.specs.Told.{Told}
 use Rattle.instructions.specs.Read.{readOf, assigned, nothingAwaited}
 use Rattle.instructions.specs.declared.numbers.Numbers.{Numbers}
 use Rattle.instructions.specs.declared.instruction.Instruction.{Instruction}
-use Rattle.controller.specs.Registers.{column, withColumn, withHolder, withPinLow, start, outside}
+use Rattle.registers.specs.Registers.{column, withColumn, withHolder, withPinLow, start, outside}
+use Rattle.registers.specs.declared.ModifyRead.{ModifyRead}
+use Rattle.registers.specs.declared.ModifyRead.the-variants.{Off, On}
+use Rattle.registers.specs.declared.Registers.{Registers}
 use Rattle.controller.specs.Execute.{executed}
 use Rattle.controller.specs.Memory.{stored, loaded, advanced}
-use Rattle.controller.specs.declared.registers.ModifyRead.{ModifyRead}
-use Rattle.controller.specs.declared.registers.ModifyRead.the-variants.{Off, On}
-use Rattle.controller.specs.declared.registers.Registers.{Registers}
 use Rattle.controller.specs.declared.cycle.Answer.{Answer}
 use Rattle.controller.specs.declared.cycle.Answer.the-variants.{Done, Status, Read, Refused}
 

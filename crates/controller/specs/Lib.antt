@@ -1,4 +1,3 @@
-pub mod Registers
 pub mod Execute
 pub mod Memory
 pub mod Cycle

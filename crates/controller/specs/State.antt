@@ -9,10 +9,10 @@ use lib.ListN.{length}
 use Rattle.instructions.specs.declared.numbers.Numbers.{Numbers}
 use Rattle.instructions.specs.declared.instruction.Awaited.{Awaited}
 use Rattle.instructions.specs.declared.instruction.Awaited.the-variants as awaited
-use Rattle.controller.specs.Registers.{column, start, withPage, withColumn, withHolder, withContrast, withIndicator, withIndicatorValue, withAwaited, outside}
+use Rattle.registers.specs.Registers.{column, start, withPage, withColumn, withHolder, withContrast, withIndicator, withIndicatorValue, withAwaited, outside}
+use Rattle.registers.specs.declared.Registers.{Registers}
 use Rattle.controller.specs.Cycle.{answer, memoryAfter}
 use Rattle.controller.specs.Run.{BusCycle, runBy, numbersBy}
-use Rattle.controller.specs.declared.registers.Registers.{Registers}
 
 pub record State : Type 0 where
   pub registers : Registers

@@ -10,14 +10,6 @@ use crate::execute::execute;
 use crate::memory::advance;
 use crate::memory::load;
 use crate::memory::store;
-use crate::registers::Column;
-use crate::registers::ModifyRead;
-use crate::registers::Registers;
-use crate::registers::outside_range;
-use crate::setters::with_column;
-use crate::setters::with_holder;
-use crate::setters::with_pin_low;
-use crate::start::started;
 use instructions::numbers::Numbers;
 use instructions::numbers::ks0713;
 use instructions::read::Reading;
@@ -26,6 +18,14 @@ use instructions::refusal::OUT_OF_RANGE;
 use instructions::refusal::PIN_LOW;
 use instructions::refusal::WRONG_CYCLE;
 use instructions::refusal::WRONG_SIZE;
+use registers::Column;
+use registers::ModifyRead;
+use registers::Registers;
+use registers::outside_range;
+use registers::setters::with_column;
+use registers::setters::with_holder;
+use registers::setters::with_pin_low;
+use registers::start::started;
 
 // What a cycle answers: the registers after it, the status byte, the registers after it and the byte read, or a refusal's number.
 pub enum Answer {

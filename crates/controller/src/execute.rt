@@ -1,27 +1,27 @@
 // What an instruction does to the registers.
 ghost use mathlib.Core.Path.{_≡_};
 ghost use Rattle.controller.specs.Execute.{saved, restored, reset, lowSet, highSet, executed};
-use crate::registers::Column;
-use crate::registers::ModifyRead;
-use crate::registers::Registers;
-use crate::setters::with_adc;
-use crate::setters::with_awaited;
-use crate::setters::with_bias;
-use crate::setters::with_column;
-use crate::setters::with_contrast;
-use crate::setters::with_entire;
-use crate::setters::with_indicator;
-use crate::setters::with_indicator_value;
-use crate::setters::with_modify_read;
-use crate::setters::with_on;
-use crate::setters::with_page;
-use crate::setters::with_power;
-use crate::setters::with_resistor;
-use crate::setters::with_reverse;
-use crate::setters::with_shl;
-use crate::setters::with_start_line;
 use instructions::instruction::Awaited;
 use instructions::instruction::Instruction;
+use registers::Column;
+use registers::ModifyRead;
+use registers::Registers;
+use registers::setters::with_adc;
+use registers::setters::with_awaited;
+use registers::setters::with_bias;
+use registers::setters::with_column;
+use registers::setters::with_contrast;
+use registers::setters::with_entire;
+use registers::setters::with_indicator;
+use registers::setters::with_indicator_value;
+use registers::setters::with_modify_read;
+use registers::setters::with_on;
+use registers::setters::with_page;
+use registers::setters::with_power;
+use registers::setters::with_resistor;
+use registers::setters::with_reverse;
+use registers::setters::with_shl;
+use registers::setters::with_start_line;
 
 // E0: the column is saved, unless one is.
 fn save(registers: Registers, mode: ModifyRead) -> Registers

@@ -1,7 +1,4 @@
-// The controller seen from its bus: registers, display memory and one cycle.
+// The controller seen from its bus: display memory and one cycle.
 pub mod cycle;
 mod execute;
 mod memory;
-pub mod registers;
-mod setters;
-pub mod start;

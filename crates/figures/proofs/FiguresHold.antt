@@ -2,7 +2,7 @@
 -- Assumes nothing.
 use mathlib.Core.Path.{refl}
 use Rattle.instructions.specs.Read.{classOf, roomIn, readBy, readFirst}
-use Rattle.controller.specs.Registers.{outside}
+use Rattle.registers.specs.Registers.{outside}
 use Rattle.controller.specs.Memory.{cellOf, isCell, stored, advanced}
 use Rattle.controller.specs.Cycle.{written, status, carried, kept, refusal, answer, memoryAfter}
 use Rattle.glass.specs.Dot.{lineOf}

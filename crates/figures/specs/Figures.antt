@@ -7,7 +7,7 @@ use mathlib.Core.Option.{Option, some}
 use mathlib.Core.List.{List, [], _∷_, _++_}
 use lib.ListN.{set, replicate}
 use Rattle.instructions.specs.Numbers.{numbers0713}
-use Rattle.controller.specs.Registers.{start}
+use Rattle.registers.specs.Registers.{start}
 use Rattle.controller.specs.Cycle.{answer}
 use Rattle.controller.specs.Run.{BusCycle}
 use Rattle.controller.specs.State.{State, state, run}

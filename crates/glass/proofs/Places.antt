@@ -9,8 +9,8 @@ use lib.Dec.{eqb}
 use borrow.Author.Tests.{eqb-true, not-false}
 use Rattle.instructions.specs.Refusal.{wrongSize}
 use Rattle.instructions.specs.declared.numbers.Numbers.{Numbers}
+use Rattle.registers.specs.declared.Registers.{Registers}
 use Rattle.controller.proofs.Cells.{place}
-use Rattle.controller.specs.declared.registers.Registers.{Registers}
 use Rattle.glass.specs.Frame.{refusal}
 use Rattle.glass.proofs.Either.{neither}
 

@@ -14,8 +14,9 @@ use borrow.Author.Tests.{ltb-true, lt-ltb, eqb-false, eq-eqb, ne-eqb, not-true}
 use Rattle.instructions.specs.Refusal.{wrongSize, outOfRange}
 use Rattle.instructions.specs.Told.{Told, given, refused}
 use Rattle.instructions.specs.declared.numbers.Numbers.{Numbers}
-use Rattle.controller.specs.Registers.{outside}
-use Rattle.controller.specs.declared.registers.Registers.{Registers}
+use Rattle.instructions.proofs.Telling.{apart, answerOf, not-given}
+use Rattle.registers.specs.Registers.{outside}
+use Rattle.registers.specs.declared.Registers.{Registers}
 use Rattle.glass.specs.Frame.{frameOf, refusal, toldShown, IsShown}
 use Rattle.glass.specs.Power.{powerOf, toldPower, IsPower}
 use Rattle.glass.specs.Voltage.{numerator, toldVoltage, IsVoltage}
@@ -25,7 +26,6 @@ use Rattle.glass.specs.declared.power.Powered.{Powered}
 use Rattle.glass.specs.declared.power.Powered.the-variants as powered
 use Rattle.glass.specs.declared.voltage.Voltage.{Voltage}
 use Rattle.glass.specs.declared.voltage.Voltage.the-variants as voltage
-use Rattle.instructions.proofs.Telling.{apart, answerOf, not-given}
 use Rattle.glass.proofs.Either.{either, or-true}
 use Rattle.glass.proofs.Places.{right-sizes}
 

@@ -13,9 +13,9 @@ use lib.Dec.{ltb, eqb}
 use borrow.Author.Tests.{lt-ltb, le-ltb, ne-eqb}
 use Rattle.instructions.specs.Numbers.{Sensible, numbers0713}
 use Rattle.instructions.specs.declared.numbers.Numbers.{Numbers}
+use Rattle.registers.specs.Registers.{withStartLine, withAdc, withShl, withReverse}
+use Rattle.registers.specs.declared.Registers.{Registers}
 use Rattle.controller.proofs.Cells.{place}
-use Rattle.controller.specs.Registers.{withStartLine, withAdc, withShl, withReverse}
-use Rattle.controller.specs.declared.registers.Registers.{Registers}
 use Rattle.glass.specs.Bit.{bitOf, sumOf}
 use Rattle.glass.specs.Dot.{lineOf, columnOf, dotOf, dotAt, litOf}
 use Rattle.glass.specs.Frame.{stripByte, frameOf}

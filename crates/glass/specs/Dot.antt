@@ -6,7 +6,7 @@ use mathlib.Core.List.{List}
 use lib.ListN.{getD}
 use lib.Dec.{ltb, eqb}
 use Rattle.instructions.specs.declared.numbers.Numbers.{Numbers}
-use Rattle.controller.specs.declared.registers.Registers.{Registers}
+use Rattle.registers.specs.declared.Registers.{Registers}
 use Rattle.glass.specs.Bit.{bitOf}
 
 -- row k shows line (start + k) mod 64 if SHL is 0, (start + rows - 1 - k) mod 64 if 1

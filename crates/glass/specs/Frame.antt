@@ -9,8 +9,8 @@ use lib.Dec.{eqb}
 use Rattle.instructions.specs.Refusal.{wrongSize, outOfRange}
 use Rattle.instructions.specs.Told.{Told, given, refused}
 use Rattle.instructions.specs.declared.numbers.Numbers.{Numbers}
-use Rattle.controller.specs.Registers.{outside}
-use Rattle.controller.specs.declared.registers.Registers.{Registers}
+use Rattle.registers.specs.Registers.{outside}
+use Rattle.registers.specs.declared.Registers.{Registers}
 use Rattle.glass.specs.Bit.{sumOf}
 use Rattle.glass.specs.Dot.{litOf}
 use Rattle.glass.specs.declared.frame.Shown.{Shown}

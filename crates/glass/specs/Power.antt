@@ -5,8 +5,8 @@ use mathlib.Core.Bool.{cond, not, _&&_}
 use Rattle.instructions.specs.Refusal.{outOfRange}
 use Rattle.instructions.specs.Told.{Told, given, refused}
 use Rattle.instructions.specs.declared.numbers.Numbers.{Numbers}
-use Rattle.controller.specs.Registers.{outside}
-use Rattle.controller.specs.declared.registers.Registers.{Registers}
+use Rattle.registers.specs.Registers.{outside}
+use Rattle.registers.specs.declared.Registers.{Registers}
 use Rattle.glass.specs.declared.power.PowerState.{PowerState}
 use Rattle.glass.specs.declared.power.PowerState.the-variants.{Normal, Sleep, Standby}
 use Rattle.glass.specs.declared.power.Powered.{Powered}

@@ -6,9 +6,9 @@ ghost use Rattle.instructions.specs.Numbers.{Sensible};
 ghost use Rattle.glass.specs.Dot.{lineOf, columnOf, cellBit, dotOf, dotAt, litOf};
 use crate::bit::bit_of;
 use crate::frame::Segment;
-use controller::registers::Column;
-use controller::registers::Registers;
 use instructions::numbers::Numbers;
+use registers::Column;
+use registers::Registers;
 
 // Row k shows line (start + k) mod 64 if SHL is 0, (start + rows - 1 - k) mod 64 if 1.
 fn line_of(rows: usize, start: u8, shl: bool, row: usize) -> usize

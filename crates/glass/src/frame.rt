@@ -6,12 +6,12 @@ ghost use Rattle.instructions.specs.Numbers.{Sensible, numbers0713};
 ghost use Rattle.glass.specs.Frame.{stripByte, frameOf, refusal, IsShown};
 use crate::bit::weight;
 use crate::dot::lit;
-use controller::registers::Registers;
-use controller::registers::outside_range;
 use instructions::numbers::Numbers;
 use instructions::numbers::ks0713;
 use instructions::refusal::OUT_OF_RANGE;
 use instructions::refusal::WRONG_SIZE;
+use registers::Registers;
+use registers::outside_range;
 
 // A segment number, on the glass side.
 pub struct Segment(pub u8);

@@ -2,11 +2,11 @@
 ghost use mathlib.Core.Path.{_≡_};
 ghost use Rattle.instructions.specs.Numbers.{numbers0713};
 ghost use Rattle.glass.specs.Power.{powerOf, IsPower};
-use controller::registers::Registers;
-use controller::registers::outside_range;
 use instructions::numbers::Numbers;
 use instructions::numbers::ks0713;
 use instructions::refusal::OUT_OF_RANGE;
+use registers::Registers;
+use registers::outside_range;
 
 pub enum PowerState {
     Normal,

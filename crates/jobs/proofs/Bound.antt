@@ -11,9 +11,10 @@ use borrow.Author.Tests.{ltb-false}
 use lib.Dec.{ltb, eqb}
 use lib.ListN.{length, length-append}
 use Rattle.instructions.specs.Numbers.{numbers0713}
+use Rattle.instructions.proofs.Sensible.{sensible0713}
+use Rattle.registers.specs.declared.Registers.{Registers}
 use Rattle.controller.specs.Cycle.{Outcome}
 use Rattle.controller.specs.State.{State, step}
-use Rattle.controller.specs.declared.registers.Registers.{Registers}
 use Rattle.streams.proofs.Cases.{split}
 use Rattle.streams.specs.Length.{updateLength}
 use Rattle.jobs.specs.Header.{wordAt, cycleAt, picture2}
@@ -21,7 +22,6 @@ use Rattle.jobs.specs.Text.{hex, decimalUpTo, decimal, field, flag, modi
 use Rattle.jobs.specs.Play.{byteLine, lineOf, answerAt, ending, textFrom, powerUp, textBy, textOf, longest}
 use Rattle.jobs.specs.Output.{flagFields}
 use Rattle.jobs.specs.declared.header.Job.{Job}
-use Rattle.instructions.proofs.Sensible.{sensible0713}
 use Rattle.controller.proofs.Numbered.{Numbered, numbered}
 use Rattle.jobs.proofs.Scan.{Way, short, sizes, cycle, good, way, jobOf, sizes-right}
 

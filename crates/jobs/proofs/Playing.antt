@@ -12,9 +12,10 @@ use borrow.Author.Tests.{lt-ltb, le-ltb, ne-eqb}
 use Rattle.instructions.specs.Refusal.{shortOutput}
 use Rattle.instructions.specs.Told.{given}
 use Rattle.instructions.specs.Numbers.{numbers0713}
+use Rattle.instructions.proofs.Sensible.{sensible0713}
+use Rattle.registers.specs.declared.Registers.{Registers}
 use Rattle.controller.specs.Cycle.{Outcome, outcome, answer, memoryAfter, Cycled}
 use Rattle.controller.specs.State.{State, state, poweredUp, step, afterBy}
-use Rattle.controller.specs.declared.registers.Registers.{Registers}
 use Rattle.controller.specs.declared.cycle.Answer.{Answer}
 use Rattle.controller.specs.declared.cycle.Answer.the-variants as answer
 use Rattle.streams.specs.Length.{updateLength}
@@ -31,7 +32,6 @@ use Rattle.jobs.specs.declared.header.Job.{Job}
 use Rattle.jobs.specs.declared.header.Header.{Header}
 use Rattle.jobs.specs.declared.header.Header.the-variants as header
 use Rattle.jobs.specs.declared.play.Played.the-variants as played
-use Rattle.instructions.proofs.Sensible.{sensible0713}
 use Rattle.controller.proofs.Numbered.{numbered}
 use Rattle.jobs.proofs.Putting.{sets-append, put-none, put-most, put-then}
 

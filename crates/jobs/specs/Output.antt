@@ -6,8 +6,8 @@ use mathlib.Core.List.{List, _++_}
 use lib.ListN.{length}
 use lib.Seq.{sets}
 use Rattle.instructions.specs.Numbers.{numbers0713}
+use Rattle.registers.specs.declared.Registers.{Registers}
 use Rattle.controller.specs.State.{State, step}
-use Rattle.controller.specs.declared.registers.Registers.{Registers}
 use Rattle.jobs.specs.Header.{cycleAt}
 use Rattle.jobs.specs.Text.{field, newline, flag, modifyFlag}
 use Rattle.jobs.specs.Play.{lineOf, answerAt}

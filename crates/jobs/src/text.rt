@@ -1,7 +1,7 @@
 // Pieces of the player's text, put into a lent output from a place on. A byte past the output's end is counted and not
 // stored, so the same calls measure a text (on any output) and write it (on one that is long enough).
-use controller::registers::ModifyRead;
-use controller::registers::Registers;
+use registers::ModifyRead;
+use registers::Registers;
 ghost use mathlib.Core.Path.{_≡_};
 ghost use mathlib.Core.List.{[], _∷_};
 ghost use Prim.Native.Nat.{_<_, _≤_};

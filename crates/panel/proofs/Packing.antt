@@ -11,9 +11,9 @@ use lib.Dec.{ltb, eqb}
 use borrow.Author.Tests.{ltb-false}
 use Rattle.instructions.specs.declared.instruction.Awaited.{Awaited}
 use Rattle.instructions.specs.declared.instruction.Awaited.the-variants as awaited
-use Rattle.controller.specs.declared.registers.ModifyRead.{ModifyRead}
-use Rattle.controller.specs.declared.registers.ModifyRead.the-variants.{Off, On}
-use Rattle.controller.specs.declared.registers.Registers.{Registers}
+use Rattle.registers.specs.declared.ModifyRead.{ModifyRead}
+use Rattle.registers.specs.declared.ModifyRead.the-variants.{Off, On}
+use Rattle.registers.specs.declared.Registers.{Registers}
 use Rattle.glass.specs.Frame.{listed}
 use Rattle.glass.proofs.Listed.{whole}
 use Rattle.streams.proofs.Cases.{less}

@@ -3,7 +3,7 @@
 -- Assumes nothing.
 use Prim.Native.Nat.{ℕ, _≤_, _<_}
 use mathlib.Core.Path.{_≡_, _∙_, refl, ap, sym, subst}
-use mathlib.Core.Logic.{_≢_, _⊎_, inl, inr, ⊎-elim}
+use mathlib.Core.Logic.{_≢_, inl, inr, ⊎-elim}
 use mathlib.Core.Bool.{Bool, true, false, cond, not, _&&_, _||_}
 use mathlib.Core.Option.{Option, none, some}
 use mathlib.Core.List.{List}
@@ -25,12 +25,13 @@ use Rattle.instructions.specs.declared.write.Writing.{Writing}
 use Rattle.instructions.proofs.Unique.{read-one, written-one, read-some, unread-4}
 use Rattle.instructions.proofs.Sensible.{sensible0713}
 use Rattle.instructions.proofs.Fits.{Fits}
-use Rattle.controller.specs.Registers.{outside}
+use Rattle.registers.specs.Registers.{outside}
+use Rattle.registers.specs.declared.Registers.{Registers}
+use Rattle.registers.proofs.InRange.{ranged, ranges, powered-one}
 use Rattle.controller.specs.State.{afterBy}
 use Rattle.controller.specs.Cycle.{outcome, cycleNumber}
-use Rattle.controller.specs.declared.registers.Registers.{Registers}
-use Rattle.controller.proofs.Ranges.{ranged, ranges, stays-ranged}
-use Rattle.controller.proofs.Unique.{cycled-one, powered-one, number-exactly}
+use Rattle.controller.proofs.Ranges.{stays-ranged}
+use Rattle.controller.proofs.Unique.{cycled-one, number-exactly}
 use Rattle.glass.specs.Frame.{toldShown, refusal}
 use Rattle.glass.specs.Power.{toldPower}
 use Rattle.glass.specs.Voltage.{toldVoltage, numerator}

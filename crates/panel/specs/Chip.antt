@@ -6,9 +6,9 @@ use mathlib.Core.Bool.{Bool, cond, _||_}
 use mathlib.Core.List.{List}
 use Rattle.instructions.specs.Refusal.{wrongSize, outOfRange}
 use Rattle.instructions.specs.Numbers.{numbers0713}
-use Rattle.controller.specs.Registers.{PoweredUp}
+use Rattle.registers.specs.Registers.{PoweredUp}
+use Rattle.registers.specs.declared.Registers.{Registers}
 use Rattle.controller.specs.Cycle.{outcome, Cycled}
-use Rattle.controller.specs.declared.registers.Registers.{Registers}
 use Rattle.controller.specs.declared.cycle.Answer.{Answer}
 use Rattle.controller.specs.declared.cycle.Answer.the-variants as cycle
 use Rattle.glass.specs.Frame.{toldShown, IsShown}

@@ -7,10 +7,10 @@ use lib.ListN.{getD}
 use lib.Dec.{ltb, eqb}
 use Rattle.instructions.specs.declared.instruction.Awaited.{Awaited}
 use Rattle.instructions.specs.declared.instruction.Awaited.the-variants as awaited
-use Rattle.controller.specs.Registers.{regs, column}
-use Rattle.controller.specs.declared.registers.ModifyRead.{ModifyRead}
-use Rattle.controller.specs.declared.registers.ModifyRead.the-variants.{Off, On}
-use Rattle.controller.specs.declared.registers.Registers.{Registers}
+use Rattle.registers.specs.Registers.{regs, column}
+use Rattle.registers.specs.declared.ModifyRead.{ModifyRead}
+use Rattle.registers.specs.declared.ModifyRead.the-variants.{Off, On}
+use Rattle.registers.specs.declared.Registers.{Registers}
 
 -- ---- a register as a byte, and back
 

@@ -7,7 +7,6 @@ use crate::state::pack;
 use crate::state::unpack;
 use controller::cycle::Answer;
 use controller::cycle::cycle;
-use controller::start::power_up;
 use glass::frame::Shown;
 use glass::frame::frame;
 use glass::power::PowerState;
@@ -18,6 +17,7 @@ use glass::voltage::v0;
 use instructions::numbers::ks0713;
 use instructions::refusal::OUT_OF_RANGE;
 use instructions::refusal::WRONG_SIZE;
+use registers::start::power_up;
 
 // The state at power-up. Refuses nothing.
 #[no_mangle]

@@ -1,10 +1,10 @@
 // The state: the registers in 32 bytes, each at its offset, the spare ones 0.
 ghost use mathlib.Core.Path.{_≡_};
 ghost use Rattle.panel.specs.State.{flagByte, modifyByte, savedByte, awaitedByte, modifyOf, awaitedOf, packed, unpacked, oddFlag, spareUsed, unfit};
-use controller::registers::Column;
-use controller::registers::ModifyRead;
-use controller::registers::Registers;
 use instructions::instruction::Awaited;
+use registers::Column;
+use registers::ModifyRead;
+use registers::Registers;
 
 // The state of a chip as C holds it: a register at each offset, spare bytes 0.
 pub type State = [u8; 32];

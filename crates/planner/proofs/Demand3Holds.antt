@@ -1,7 +1,7 @@
 -- Demand 3 holds, about plain registers, the controller's own run, and the bytes that the calls put into their outputs: the
 -- streams' theorems at the KS0713, where its laws (controller, Chips) meet them.
 -- Assumes nothing.
-use Prim.Native.Nat.{ℕ, _+_, _≤_, _<_}
+use Prim.Native.Nat.{ℕ, _<_}
 use mathlib.Core.Path.{_≡_, _∙_, refl, ap, sym, subst}
 use mathlib.Core.Bool.{Bool, true, false, cond}
 use mathlib.Core.List.{List, [], _∷_, _++_, map}
@@ -11,11 +11,10 @@ use borrow.Author.Tests.{eqb-true, ltb-false}
 use lib.ListN.{length, take, drop}
 use Rattle.instructions.specs.Refusal.{wrongSize, outsideField, shortOutput}
 use Rattle.instructions.specs.Told.{given}
-use Rattle.instructions.specs.declared.instruction.Awaited.the-variants as awaited
 use Rattle.instructions.proofs.Telling.{given-one, not-given}
+use Rattle.registers.specs.declared.Registers.{Registers}
 use Rattle.controller.specs.Run.{BusCycle}
 use Rattle.controller.specs.State.{State, state, rest, settings}
-use Rattle.controller.specs.declared.registers.Registers.{Registers}
 use Rattle.controller.proofs.Chips.{chip0713, restart0713, moved, redrawn}
 use Rattle.streams.specs.Update.{updateStream}
 use Rattle.streams.specs.Redraw.{redrawStream}

@@ -8,11 +8,11 @@ use mathlib.Core.List.{List, [], _∷_}
 use lib.ListN.{length, take, replicate}
 use Rattle.instructions.specs.Numbers.{numbers0713}
 use Rattle.instructions.specs.declared.instruction.Awaited.the-variants as awaited
-use Rattle.controller.specs.Registers.{outside, withContrast, withIndicator, withIndicatorValue, withAwaited}
+use Rattle.registers.specs.Registers.{outside, withContrast, withIndicator, withIndicatorValue, withAwaited}
+use Rattle.registers.specs.declared.Registers.{Registers}
 use Rattle.controller.specs.Run.{BusCycle}
 use Rattle.controller.specs.State.{State, state, run, numbers, placed, rest, indicatorAwaited}
 use Rattle.controller.specs.Chip.{View}
-use Rattle.controller.specs.declared.registers.Registers.{Registers}
 use Rattle.streams.specs.Picture.{shown, Same, Between}
 use Rattle.streams.specs.Stretch.{Stretch, OfKind, emit}
 use Rattle.streams.specs.Update.{update}

@@ -1,7 +1,7 @@
 -- The length formula counted from the left, as a loop does: bytes so far and bytes still to pay make what the page's stretches cost,
 -- and a page that sends anything has its page byte besides.
 -- Assumes nothing.
-use Prim.Native.Nat.{ℕ, zero, suc, _+_, _-_, _≤_, _<_, min}
+use Prim.Native.Nat.{ℕ, suc, _+_, _-_, _≤_, _<_, min}
 use mathlib.Core.Path.{_≡_, refl}
 use mathlib.Core.Bool.{Bool, true, false}
 use mathlib.Core.List.{List}

@@ -7,9 +7,9 @@ use Prim.Native.Nat.{ℕ}
 use lib.Dec.{T}
 use lib.ListN.{length}
 use Rattle.instructions.specs.Numbers.{numbers0713}
-use Rattle.controller.specs.Registers.{Ranged}
-use Rattle.controller.specs.declared.registers.Registers.{Registers}
-use Rattle.controller.proofs.Ranges.{ranged}
+use Rattle.registers.specs.Registers.{Ranged}
+use Rattle.registers.specs.declared.Registers.{Registers}
+use Rattle.registers.proofs.InRange.{ranged}
 use Rattle.glass.specs.Frame.{frameOf, IsShown}
 use Rattle.glass.specs.declared.frame.Shown.{Shown}
 use Rattle.glass.specs.declared.frame.Shown.the-variants.{Drawn, Refused}

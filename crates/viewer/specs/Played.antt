@@ -4,10 +4,10 @@ use Prim.Native.Nat.{ℕ, zero, suc}
 use mathlib.Core.Path.{_≡_}
 use mathlib.Core.List.{List, [], _∷_}
 use Rattle.instructions.specs.Numbers.{numbers0713}
-use Rattle.controller.specs.Registers.{Ranged}
+use Rattle.registers.specs.Registers.{Ranged}
+use Rattle.registers.specs.declared.Registers.{Registers}
 use Rattle.controller.specs.Run.{BusCycle}
 use Rattle.controller.specs.State.{state, poweredUp, run}
-use Rattle.controller.specs.declared.registers.Registers.{Registers}
 use Rattle.jobs.specs.Header.{cycleAt}
 use Rattle.jobs.specs.declared.header.Job.{Job}
 

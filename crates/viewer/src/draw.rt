@@ -1,12 +1,12 @@
 // The lit frame in rows of characters: rows 0 to 63 are the commons, row 64 is the icon row.
-use controller::registers::Registers;
 use glass::bit::bit_of;
 use glass::frame::frame;
+use registers::Registers;
 ghost use mathlib.Core.Path.{_≡_};
 ghost use Prim.Native.Nat.{_+_, _≤_, _<_};
 ghost use lib.ListN.{length};
 ghost use Rattle.instructions.specs.Numbers.{numbers0713};
-ghost use Rattle.controller.specs.Registers.{Ranged};
+ghost use Rattle.registers.specs.Registers.{Ranged};
 ghost use Rattle.glass.specs.Frame.{frameOf, listed};
 ghost use Rattle.viewer.specs.Drawn.{glyph};
 

@@ -1,8 +1,8 @@
 // The registers and the memory after a job's cycles.
 use bus::run::run;
-use controller::registers::Registers;
-use controller::start::power_up;
 use jobs::header::Job;
+use registers::Registers;
+use registers::start::power_up;
 ghost use Rattle.jobs.specs.Output.{Holds};
 ghost use Rattle.viewer.specs.Played.{Played};
 

@@ -1,8 +1,11 @@
-// The registers, by value.
+// The registers, by value: what they are, their ranges, a setter for each, and their start values.
 ghost use mathlib.Core.Path.{_≡_};
-ghost use Rattle.controller.specs.Registers.{savedOf, outside};
+ghost use Rattle.registers.specs.Registers.{savedOf, outside};
 use instructions::instruction::Awaited;
 use instructions::numbers::Numbers;
+
+pub mod setters;
+pub mod start;
 
 // A column address, on the memory side.
 pub struct Column(pub u8);

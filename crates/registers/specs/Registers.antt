@@ -7,10 +7,10 @@ use lib.Dec.{ltb, leb}
 use Rattle.instructions.specs.declared.numbers.Numbers.{Numbers}
 use Rattle.instructions.specs.declared.instruction.Awaited.{Awaited}
 use Rattle.instructions.specs.declared.instruction.Awaited.the-variants.{Nothing}
-use Rattle.controller.specs.declared.registers.Column.{Column}
-use Rattle.controller.specs.declared.registers.ModifyRead.{ModifyRead}
-use Rattle.controller.specs.declared.registers.ModifyRead.the-variants.{Off, On}
-use Rattle.controller.specs.declared.registers.Registers.{Registers}
+use Rattle.registers.specs.declared.Column.{Column}
+use Rattle.registers.specs.declared.ModifyRead.{ModifyRead}
+use Rattle.registers.specs.declared.ModifyRead.the-variants.{Off, On}
+use Rattle.registers.specs.declared.Registers.{Registers}
 
 abbrev pub column : ℕ → Column
 column c = record { 0 = c }

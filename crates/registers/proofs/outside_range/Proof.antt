@@ -1,11 +1,11 @@
--- `controller::registers::outside_range` meets its contract.
+-- `registers::outside_range` meets its contract.
 -- Assumes nothing.
 use mathlib.Core.Path.{refl}
 use native.Mathlib.Omega.{arith}
 use borrow.Author.Needs.{needs}
-use Rattle.controller.specs.Registers.{outside}
-use Rattle.controller.proofs.registers.outside_range.Statement.{statement}
-use Rattle.controller.proofs.registers.outside_range.Tie as tie
+use Rattle.registers.specs.Registers.{outside}
+use Rattle.registers.proofs.outside_range.Statement.{statement}
+use Rattle.registers.proofs.outside_range.Tie as tie
 
 pub outside-range-spec : {M : Type 1} → statement M
 unfolding outside

@@ -1,8 +1,8 @@
--- `controller::start::power_up` meets its contract: the start values, with the pin high again.
+-- `registers::start::power_up` meets its contract: the start values, with the pin high again.
 -- Assumes nothing.
 use borrow.Author.Needs.{needs}
-use Rattle.controller.proofs.start.power_up.Statement.{statement}
-use Rattle.controller.proofs.start.power_up.Tie as tie
+use Rattle.registers.proofs.start.power_up.Statement.{statement}
+use Rattle.registers.proofs.start.power_up.Tie as tie
 
 pub power-up-spec : {M : Type 1} → statement M
 power-up-spec =

@@ -1,16 +1,16 @@
 // The start values, and the registers at power-up.
 ghost use mathlib.Core.Path.{_≡_};
 ghost use Rattle.instructions.specs.Numbers.{numbers0713};
-ghost use Rattle.controller.specs.Registers.{start, PoweredUp};
-use crate::registers::Column;
-use crate::registers::ModifyRead;
-use crate::registers::Registers;
+ghost use Rattle.registers.specs.Registers.{start, PoweredUp};
+use crate::Column;
+use crate::ModifyRead;
+use crate::Registers;
 use instructions::instruction::Awaited;
 use instructions::numbers::Numbers;
 use instructions::numbers::ks0713;
 
 // Every register at its start value, with the holder and the pin as given.
-pub(crate) fn started(chip: Numbers, holder: u8, low: bool) -> Registers
+pub fn started(chip: Numbers, holder: u8, low: bool) -> Registers
     ensures { λ r. ⌜ r ≡ start chip holder low ⌝ }
 {
     Registers {

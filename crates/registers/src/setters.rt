@@ -1,18 +1,18 @@
 // The registers with one of them set anew, a function for each.
 ghost use mathlib.Core.Path.{_≡_};
-ghost use Rattle.controller.specs.Registers.{withPage, withColumn, withStartLine, withContrast, withResistor, withPower, withBias, withAdc, withShl, withReverse, withEntire, withOn, withIndicator, withIndicatorValue, withHolder, withPinLow, withModifyRead, withAwaited};
-use crate::registers::Column;
-use crate::registers::ModifyRead;
-use crate::registers::Registers;
+ghost use Rattle.registers.specs.Registers.{withPage, withColumn, withStartLine, withContrast, withResistor, withPower, withBias, withAdc, withShl, withReverse, withEntire, withOn, withIndicator, withIndicatorValue, withHolder, withPinLow, withModifyRead, withAwaited};
+use crate::Column;
+use crate::ModifyRead;
+use crate::Registers;
 use instructions::instruction::Awaited;
 
-pub(crate) fn with_page(registers: Registers, page: u8) -> Registers
+pub fn with_page(registers: Registers, page: u8) -> Registers
     ensures { λ n. ⌜ n ≡ withPage registers page ⌝ }
 {
     Registers { page, ..registers }
 }
 
-pub(crate) fn with_column(registers: Registers, column: Column) -> Registers
+pub fn with_column(registers: Registers, column: Column) -> Registers
     ensures { λ n. ⌜ n ≡ withColumn registers column ⌝ }
 {
     Registers {
@@ -21,7 +21,7 @@ pub(crate) fn with_column(registers: Registers, column: Column) -> Registers
     }
 }
 
-pub(crate) fn with_start_line(registers: Registers, start_line: u8) -> Registers
+pub fn with_start_line(registers: Registers, start_line: u8) -> Registers
     ensures { λ n. ⌜ n ≡ withStartLine registers «start_line» ⌝ }
 {
     Registers {
@@ -30,7 +30,7 @@ pub(crate) fn with_start_line(registers: Registers, start_line: u8) -> Registers
     }
 }
 
-pub(crate) fn with_contrast(registers: Registers, contrast: u8) -> Registers
+pub fn with_contrast(registers: Registers, contrast: u8) -> Registers
     ensures { λ n. ⌜ n ≡ withContrast registers contrast ⌝ }
 {
     Registers {
@@ -39,7 +39,7 @@ pub(crate) fn with_contrast(registers: Registers, contrast: u8) -> Registers
     }
 }
 
-pub(crate) fn with_resistor(registers: Registers, resistor: u8) -> Registers
+pub fn with_resistor(registers: Registers, resistor: u8) -> Registers
     ensures { λ n. ⌜ n ≡ withResistor registers resistor ⌝ }
 {
     Registers {
@@ -48,31 +48,31 @@ pub(crate) fn with_resistor(registers: Registers, resistor: u8) -> Registers
     }
 }
 
-pub(crate) fn with_power(registers: Registers, power: u8) -> Registers
+pub fn with_power(registers: Registers, power: u8) -> Registers
     ensures { λ n. ⌜ n ≡ withPower registers power ⌝ }
 {
     Registers { power, ..registers }
 }
 
-pub(crate) fn with_bias(registers: Registers, bias: bool) -> Registers
+pub fn with_bias(registers: Registers, bias: bool) -> Registers
     ensures { λ n. ⌜ n ≡ withBias registers bias ⌝ }
 {
     Registers { bias, ..registers }
 }
 
-pub(crate) fn with_adc(registers: Registers, adc: bool) -> Registers
+pub fn with_adc(registers: Registers, adc: bool) -> Registers
     ensures { λ n. ⌜ n ≡ withAdc registers adc ⌝ }
 {
     Registers { adc, ..registers }
 }
 
-pub(crate) fn with_shl(registers: Registers, shl: bool) -> Registers
+pub fn with_shl(registers: Registers, shl: bool) -> Registers
     ensures { λ n. ⌜ n ≡ withShl registers shl ⌝ }
 {
     Registers { shl, ..registers }
 }
 
-pub(crate) fn with_reverse(registers: Registers, reverse: bool) -> Registers
+pub fn with_reverse(registers: Registers, reverse: bool) -> Registers
     ensures { λ n. ⌜ n ≡ withReverse registers reverse ⌝ }
 {
     Registers {
@@ -81,7 +81,7 @@ pub(crate) fn with_reverse(registers: Registers, reverse: bool) -> Registers
     }
 }
 
-pub(crate) fn with_entire(registers: Registers, entire: bool) -> Registers
+pub fn with_entire(registers: Registers, entire: bool) -> Registers
     ensures { λ n. ⌜ n ≡ withEntire registers entire ⌝ }
 {
     Registers {
@@ -90,13 +90,13 @@ pub(crate) fn with_entire(registers: Registers, entire: bool) -> Registers
     }
 }
 
-pub(crate) fn with_on(registers: Registers, on: bool) -> Registers
+pub fn with_on(registers: Registers, on: bool) -> Registers
     ensures { λ n. ⌜ n ≡ withOn registers on ⌝ }
 {
     Registers { on, ..registers }
 }
 
-pub(crate) fn with_indicator(registers: Registers, indicator: bool) -> Registers
+pub fn with_indicator(registers: Registers, indicator: bool) -> Registers
     ensures { λ n. ⌜ n ≡ withIndicator registers indicator ⌝ }
 {
     Registers {
@@ -105,7 +105,7 @@ pub(crate) fn with_indicator(registers: Registers, indicator: bool) -> Registers
     }
 }
 
-pub(crate) fn with_indicator_value(registers: Registers, indicator_value: u8) -> Registers
+pub fn with_indicator_value(registers: Registers, indicator_value: u8) -> Registers
     ensures { λ n. ⌜ n ≡ withIndicatorValue registers «indicator_value» ⌝ }
 {
     Registers {
@@ -114,7 +114,7 @@ pub(crate) fn with_indicator_value(registers: Registers, indicator_value: u8) ->
     }
 }
 
-pub(crate) fn with_holder(registers: Registers, holder: u8) -> Registers
+pub fn with_holder(registers: Registers, holder: u8) -> Registers
     ensures { λ n. ⌜ n ≡ withHolder registers holder ⌝ }
 {
     Registers {
@@ -123,7 +123,7 @@ pub(crate) fn with_holder(registers: Registers, holder: u8) -> Registers
     }
 }
 
-pub(crate) fn with_pin_low(registers: Registers, pin_low: bool) -> Registers
+pub fn with_pin_low(registers: Registers, pin_low: bool) -> Registers
     ensures { λ n. ⌜ n ≡ withPinLow registers «pin_low» ⌝ }
 {
     Registers {
@@ -133,7 +133,7 @@ pub(crate) fn with_pin_low(registers: Registers, pin_low: bool) -> Registers
 }
 
 // A field that is an enum is not stored to: the struct is written anew.
-pub(crate) fn with_awaited(registers: Registers, awaited: Awaited) -> Registers
+pub fn with_awaited(registers: Registers, awaited: Awaited) -> Registers
     ensures { λ n. ⌜ n ≡ withAwaited registers awaited ⌝ }
 {
     let modify_read = registers.modify_read;
@@ -160,7 +160,7 @@ pub(crate) fn with_awaited(registers: Registers, awaited: Awaited) -> Registers
     }
 }
 
-pub(crate) fn with_modify_read(registers: Registers, mode: ModifyRead) -> Registers
+pub fn with_modify_read(registers: Registers, mode: ModifyRead) -> Registers
     ensures { λ n. ⌜ n ≡ withModifyRead registers mode ⌝ }
 {
     let awaited = registers.awaited;

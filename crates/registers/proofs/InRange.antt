@@ -1,0 +1,57 @@
+-- In range, as one test and range by range; and what a promise about power-up fixes.
+-- Assumes nothing.
+use Prim.Native.Nat.{_*_}
+use mathlib.Core.Path.{_≡_, refl, sym, subst, _∙_}
+use mathlib.Core.Bool.{Bool, true, false, _||_}
+use native.Mathlib.Omega.{arith}
+use lib.Dec.{T, ltb, leb}
+use borrow.Author.Tests.{le-ltb, lt-leb, ltb-false, leb-false}
+use Rattle.instructions.specs.declared.numbers.Numbers.{Numbers}
+use Rattle.registers.specs.Registers.{outside, savedOf, Ranged, PoweredUp}
+use Rattle.registers.specs.declared.Registers.{Registers}
+
+-- eight tests of which none holds
+none-of : (a b c d e f g h : Bool) → a || b || c || d || e || f || g || h ≡ false
+    → (a ≡ false) × (b ≡ false) × (c ≡ false) × (d ≡ false) × (e ≡ false) × (f ≡ false) × (g ≡ false) × (h ≡ false)
+none-of false false false false false false false false p = (refl, refl, refl, refl, refl, refl, refl, refl)
+none-of true b c d e f g h p = absurd (subst T p tt)
+none-of false true c d e f g h p = absurd (subst T p tt)
+none-of false false true d e f g h p = absurd (subst T p tt)
+none-of false false false true e f g h p = absurd (subst T p tt)
+none-of false false false false true f g h p = absurd (subst T p tt)
+none-of false false false false false true g h p = absurd (subst T p tt)
+none-of false false false false false false true h p = absurd (subst T p tt)
+none-of false false false false false false false true p = absurd (subst T p tt)
+
+pub ranged : (k : Numbers) (r : Registers) → Ranged k r → outside k r ≡ false
+unfolding outside
+ranged k r g =
+    simp (
+      le-ltb 15 (r .page) (omega arith),
+      lt-leb (k .highs * 16) (r .column .0) (omega arith),
+      le-ltb 63 (r .«start_line») (omega arith),
+      le-ltb 63 (r .contrast) (omega arith),
+      le-ltb 7 (r .resistor) (omega arith),
+      le-ltb 7 (r .power) (omega arith),
+      le-ltb 3 (r .«indicator_value») (omega arith),
+      lt-leb (k .highs * 16) (savedOf (r .«modify_read»)) (omega arith),
+    )
+
+pub ranges : (k : Numbers) (r : Registers) → outside k r ≡ false → Ranged k r
+unfolding outside
+ranges k r e =
+    let f = none-of (ltb 15 (r .page)) (leb (k .highs * 16) (r .column .0)) (ltb 63 (r .«start_line»)) (ltb 63 (r .contrast)) (ltb 7 (r .resistor)) (ltb 7 (r .power)) (ltb 3 (r .«indicator_value»)) (leb (k .highs * 16) (savedOf (r .«modify_read»))) e in
+    record {
+      page = omega (arith, ltb-false 15 (r .page) (f .0));
+      column = omega (arith, leb-false (k .highs * 16) (r .column .0) (f .1));
+      start-line = omega (arith, ltb-false 63 (r .«start_line») (f .2));
+      contrast = omega (arith, ltb-false 63 (r .contrast) (f .3));
+      resistor = omega (arith, ltb-false 7 (r .resistor) (f .4));
+      power = omega (arith, ltb-false 7 (r .power) (f .5));
+      indicator-value = omega (arith, ltb-false 3 (r .«indicator_value») (f .6));
+      saved = omega (arith, leb-false (k .highs * 16) (savedOf (r .«modify_read»)) (f .7));
+    }
+
+-- two admitted answers of power_up are equal
+pub powered-one : {k : Numbers} {r s : Registers} → PoweredUp k r → PoweredUp k s → r ≡ s
+powered-one f g = f .tells ∙ sym (g .tells)

@@ -11,6 +11,7 @@ use lib.ListN.{length}
 use Rattle.instructions.specs.Numbers.{numbers0713}
 use Rattle.registers.specs.Registers.{outside, withAdc, start}
 use Rattle.registers.specs.declared.Registers.{Registers}
+use Rattle.registers.proofs.InRange.{ranged}
 use Rattle.controller.specs.Cycle.{outcome, status, carried, Cycled}
 use Rattle.controller.specs.State.{state, Restartable}
 use Rattle.controller.specs.declared.cycle.Answer.{Answer}
@@ -27,10 +28,10 @@ usable r m long e high = record { long = long; ranged = e; high = high }
 
 pub answers-differ : (m : List ℕ) (a b : Answer) (left right : List ℕ) → length m ≡ 1188
     → Cycled numbers0713 (start numbers0713 0 false) m 2 0 a left → Cycled numbers0713 (withAdc (start numbers0713 0 false) true) m 2 0 b right → a ≢ b
-unfolding outside status
+unfolding status
 answers-differ m a b left right long f g e =
-    let p = status-told (start numbers0713 0 false) m a left (usable _ m long refl refl) f in
-    let q = status-told (withAdc (start numbers0713 0 false) true) m b right (usable _ m long refl refl) g in
+    let p = status-told (start numbers0713 0 false) m a left (usable _ m long (ranged numbers0713 (start numbers0713 0 false) (omega arith)) refl) f in
+    let q = status-told (withAdc (start numbers0713 0 false) true) m b right (usable _ m long (ranged numbers0713 (withAdc (start numbers0713 0 false) true) (omega arith)) refl) g in
     let s : _≡_ {A = Option ℕ} (some 96) (some 32) = sym p ∙ ap (λ x. outcome x .byte) e ∙ q in
     let z : _≡_ {A = ℕ} 96 32 = cc in
     omega arith

@@ -132,57 +132,20 @@ pub fn with_pin_low(registers: Registers, pin_low: bool) -> Registers
     }
 }
 
-// A field that is an enum is not stored to: the struct is written anew.
 pub fn with_awaited(registers: Registers, awaited: Awaited) -> Registers
     ensures { λ n. ⌜ n ≡ withAwaited registers awaited ⌝ }
 {
-    let modify_read = registers.modify_read;
-    let column = registers.column;
     Registers {
-        page: registers.page,
-        column,
-        start_line: registers.start_line,
-        contrast: registers.contrast,
-        resistor: registers.resistor,
-        power: registers.power,
-        bias: registers.bias,
-        adc: registers.adc,
-        shl: registers.shl,
-        reverse: registers.reverse,
-        entire: registers.entire,
-        on: registers.on,
-        indicator: registers.indicator,
-        indicator_value: registers.indicator_value,
-        holder: registers.holder,
-        pin_low: registers.pin_low,
-        modify_read,
         awaited,
+        ..registers
     }
 }
 
-pub fn with_modify_read(registers: Registers, mode: ModifyRead) -> Registers
-    ensures { λ n. ⌜ n ≡ withModifyRead registers mode ⌝ }
+pub fn with_modify_read(registers: Registers, modify_read: ModifyRead) -> Registers
+    ensures { λ n. ⌜ n ≡ withModifyRead registers «modify_read» ⌝ }
 {
-    let awaited = registers.awaited;
-    let column = registers.column;
     Registers {
-        page: registers.page,
-        column,
-        start_line: registers.start_line,
-        contrast: registers.contrast,
-        resistor: registers.resistor,
-        power: registers.power,
-        bias: registers.bias,
-        adc: registers.adc,
-        shl: registers.shl,
-        reverse: registers.reverse,
-        entire: registers.entire,
-        on: registers.on,
-        indicator: registers.indicator,
-        indicator_value: registers.indicator_value,
-        holder: registers.holder,
-        pin_low: registers.pin_low,
-        modify_read: mode,
-        awaited,
+        modify_read,
+        ..registers
     }
 }

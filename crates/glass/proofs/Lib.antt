@@ -1,5 +1,3 @@
-pub mod Either
-pub mod Listed
 pub mod Bits
 pub mod Places
 pub mod Ratios

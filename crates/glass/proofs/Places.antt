@@ -12,7 +12,7 @@ use Rattle.instructions.specs.declared.numbers.Numbers.{Numbers}
 use Rattle.registers.specs.declared.Registers.{Registers}
 use Rattle.controller.proofs.Cells.{place}
 use Rattle.glass.specs.Frame.{refusal}
-use Rattle.glass.proofs.Either.{neither}
+use Rattle.instructions.proofs.Either.{neither}
 
 -- a line is on one of 9 pages
 pub line-place : (w line c : ℕ) → line ≤ 64 → c < w → w * (line / 8) + c < 9 * w

@@ -26,7 +26,7 @@ use Rattle.glass.specs.declared.power.Powered.{Powered}
 use Rattle.glass.specs.declared.power.Powered.the-variants as powered
 use Rattle.glass.specs.declared.voltage.Voltage.{Voltage}
 use Rattle.glass.specs.declared.voltage.Voltage.the-variants as voltage
-use Rattle.glass.proofs.Either.{either, or-true}
+use Rattle.instructions.proofs.Either.{either, or-true}
 use Rattle.glass.proofs.Places.{right-sizes}
 
 abbrev pub Exactly : Type 0 → Type 0 → Type 0

@@ -10,7 +10,7 @@ use lib.Dec.{ltb, leb, leb→le}
 use borrow.Author.Tests.{ltb-false}
 use Rattle.instructions.proofs.Every.{at}
 use Rattle.glass.specs.Voltage.{ratios}
-use Rattle.glass.proofs.Either.{neither}
+use Rattle.instructions.proofs.Either.{neither}
 
 few : ℕ → Bool
 few k = leb (getD ratios k 0) 648

@@ -19,7 +19,7 @@ use Rattle.controller.proofs.Cells.{place}
 use Rattle.glass.specs.Bit.{bitOf, sumOf}
 use Rattle.glass.specs.Dot.{lineOf, columnOf, dotOf, dotAt, litOf}
 use Rattle.glass.specs.Frame.{stripByte, frameOf}
-use Rattle.glass.proofs.Listed.{at, length-listed, listed-same}
+use Rattle.instructions.proofs.Listed.{at, length-listed, listed-same}
 use Rattle.glass.proofs.Bits.{bit-is, sum-same}
 
 -- a value that both arms have

@@ -1,13 +1,14 @@
 -- The lit frame: a picture's layout, with segments for columns and rows for lines.
 -- Assumes nothing.
-use Prim.Native.Nat.{ℕ, zero, suc, _+_, _*_, _/_, _%_}
+use Prim.Native.Nat.{ℕ, _+_, _*_, _/_, _%_}
 use mathlib.Core.Path.{_≡_}
 use mathlib.Core.Bool.{cond, not, _||_}
-use mathlib.Core.List.{List, [], _∷_}
+use mathlib.Core.List.{List}
 use lib.ListN.{length}
 use lib.Dec.{eqb}
 use Rattle.instructions.specs.Refusal.{wrongSize, outOfRange}
 use Rattle.instructions.specs.Told.{Told, given, refused}
+use Rattle.instructions.specs.Listed.{listed}
 use Rattle.instructions.specs.declared.numbers.Numbers.{Numbers}
 use Rattle.registers.specs.Registers.{outside}
 use Rattle.registers.specs.declared.Registers.{Registers}
@@ -19,11 +20,6 @@ use Rattle.glass.specs.declared.frame.Shown.the-variants.{Drawn, Refused
 -- strip t under segment s: bit b is row 8t + b. Strip 8 has the icon row in bit 0, and its bits 1 to 7 are 0
 unfoldable pub stripByte : Numbers → Registers → List ℕ → ℕ → ℕ → ℕ
 stripByte c r m t s = sumOf (λ b. litOf c r m (8 * t + b) s) 8
-
--- f at i and the n - 1 numbers after it
-abbrev pub listed : (ℕ → ℕ) → ℕ → ℕ → List ℕ
-listed f i zero = []
-listed f i (suc n) = f i ∷ listed f (suc i) n
 
 -- byte width · strip + segment is that strip under that segment
 unfoldable pub frameOf : Numbers → Registers → List ℕ → List ℕ

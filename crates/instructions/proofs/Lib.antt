@@ -1,3 +1,8 @@
+pub mod Cases
+pub mod Either
+pub mod Exactly
+pub mod Listed
+pub mod Answering
 pub mod Tests
 pub mod Sensible
 pub mod Every

@@ -15,7 +15,7 @@ use Rattle.instructions.proofs.Sensible.{sensible0713}
 use Rattle.registers.specs.declared.Registers.{Registers}
 use Rattle.controller.specs.Cycle.{Outcome}
 use Rattle.controller.specs.State.{State, step}
-use Rattle.streams.proofs.Cases.{split}
+use Rattle.instructions.proofs.Cases.{split}
 use Rattle.streams.specs.Length.{updateLength}
 use Rattle.jobs.specs.Header.{wordAt, cycleAt, picture2}
 use Rattle.jobs.specs.Text.{hex, decimalUpTo, decimal, field, flag, modifyFlag, readLine, refusalLine, badLine, endLine, updateLine}

@@ -14,8 +14,9 @@ use Rattle.instructions.specs.Refusal.{shortOutput, shortJob, wrongHeader, wron
 use Rattle.instructions.specs.Told.{refused}
 use Rattle.instructions.proofs.Telling.{apart, answerOf, not-given}
 use Rattle.controller.specs.Cycle.{malformed}
-use Rattle.streams.proofs.Cases.{split, less}
-use Rattle.planner.proofs.Exactly.{Exactly, then, both, same-number, here, past, nowhere}
+use Rattle.instructions.proofs.Cases.{split, less}
+use Rattle.instructions.proofs.Either.{or-true}
+use Rattle.instructions.proofs.Exactly.{Exactly, then, both, same-number, here, past, nowhere}
 use Rattle.jobs.specs.Header.{wordAt, cycleAt, wrongCycles, headerOf, toldHeader, IsHeader}
 use Rattle.jobs.specs.Play.{textOf, longest, toldPlayed, IsPlayed}
 use Rattle.jobs.specs.declared.header.Header.{Header}
@@ -88,15 +89,11 @@ module _ (file : List ℕ) where
       (λ t. record { at = i; from = omega arith; below = omega arith; wrong = t })
       (λ t. later i n (wrong-at (suc i) n (rw t at e)))
 
-  or-second : (a b : Bool) → b ≡ true → (a || b) ≡ true
-  or-second true b e = refl
-  or-second false b e = e
-
   at-wrong : (i n : ℕ) → WrongCycle file i n → wrongCycles file i n ≡ true
   unfolding wrongCycles
   at-wrong i zero w = absurd (omega (arith, w .from, w .below))
   at-wrong i (suc n) w = less i (w .at)
-      (λ h. or-second (malformed (cycleAt file i .0) (cycleAt file i .1)) _ (at-wrong (suc i) n (record { at = w .at; from = h; below = omega (arith, w .below); wrong = w .wrong })))
+      (λ h. or-true (malformed (cycleAt file i .0) (cycleAt file i .1)) _ (inr (at-wrong (suc i) n (record { at = w .at; from = h; below = omega (arith, w .below); wrong = w .wrong }))))
       (λ h. let e : w .at ≡ i = omega (arith, w .from) in rw (rw e at (w .wrong)))
 
   cycles-yes : Exactly (cyclesWrong file ≡ true) (WrongCycle file 0 (wordAt file 0))

@@ -12,7 +12,7 @@ use Rattle.instructions.specs.Refusal.{shortJob, wrongHeader, wrongCycle}
 use Rattle.instructions.specs.Told.{given, refused}
 use Rattle.instructions.proofs.Telling.{given-one, not-given}
 use Rattle.controller.specs.Cycle.{malformed}
-use Rattle.streams.proofs.Cases.{split, less}
+use Rattle.instructions.proofs.Cases.{split, less}
 use Rattle.jobs.specs.Header.{wordAt, cycleAt, wrongSizes, wrongCycles, headerOf, toldHeader, IsHeader}
 use Rattle.jobs.specs.Output.{Holds}
 use Rattle.jobs.specs.declared.header.Job.{Job}

@@ -10,11 +10,11 @@ use lib.Dec.{ltb, eqb}
 use borrow.Author.Tests.{ltb-false, eqb-true, eqb-false}
 use Rattle.instructions.specs.declared.instruction.Instruction.{Instruction}
 use Rattle.instructions.specs.declared.instruction.Instruction.the-variants.{ColumnLow, ColumnHigh, Resistor, Power, StartLine, ContrastNext, ContrastValue, Adc, Bias, Entire, Reverse, IndicatorOff, IndicatorOn, IndicatorValue, Display, Page, Shl, ModifyReadOn, ModifyReadOff, Reset, Nop}
-use Rattle.streams.proofs.Cases.{split}
-use Rattle.planner.proofs.Showing.{or-left, or-right}
-use Rattle.panel.specs.State.{flagByte}
+use Rattle.instructions.proofs.Cases.{split}
+use Rattle.instructions.proofs.Either.{or-left, or-right}
+use Rattle.state.specs.Packed.{flagByte}
 use Rattle.panel.specs.Bytes.{numberOf, valueOf, numbered, takesFlag, takesNone, unnamed, byNumber, named}
-use Rattle.panel.proofs.Packing.{flag-kept}
+use Rattle.state.proofs.Packing.{flag-kept}
 
 pub instruction-again : (i : Instruction) → named (numberOf i) (valueOf i) ≡ some i
 unfolding named unnamed byNumber

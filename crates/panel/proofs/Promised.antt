@@ -37,54 +37,28 @@ use Rattle.glass.specs.Power.{toldPower}
 use Rattle.glass.specs.Voltage.{toldVoltage, numerator}
 use Rattle.glass.proofs.Promised.{power-one, voltage-one, shown-one}
 use Rattle.streams.specs.Length.{updateLength}
-use Rattle.streams.proofs.Cases.{split, less}
+use Rattle.instructions.proofs.Cases.{split, less}
 use Rattle.planner.specs.Pictures.{misfit}
 use Rattle.planner.specs.First.{toldFound}
 use Rattle.planner.specs.Count.{toldCount}
 use Rattle.planner.specs.Sent.{updateRefusal, redrawRefusal, IsUpdate, IsRedraw}
 use Rattle.planner.specs.declared.count.Count.{Count}
 use Rattle.planner.specs.declared.count.Count.the-variants as count
-use Rattle.planner.proofs.Exactly.{Exactly, RightSize, ShortOutput, misfit-yes, misfit-no, then, both, same-number, past, nowhere, wrong-size, right-size}
-use Rattle.planner.proofs.Showing.{or-left, or-right}
+use Rattle.instructions.proofs.Exactly.{Exactly, then, both, same-number, past, nowhere, only}
+use Rattle.planner.proofs.Exactly.{RightSize, ShortOutput, misfit-yes, misfit-no, wrong-size, right-size}
+use Rattle.instructions.proofs.Either.{or-left, or-right}
 use Rattle.planner.proofs.Scanning.{first-given}
 use Rattle.planner.proofs.Promised.{first-one, first-1, length-one, update-one, update-1, update-5, update-only, redraw-one, redraw-1, redraw-6, redraw-5, redraw-only}
-use Rattle.panel.specs.Answers.{leftBy, Answers, If}
-use Rattle.panel.specs.State.{packed, unpacked, unfit, awaitedOf}
-use Rattle.panel.specs.Chip.{PowerUpOut, unfitNumber, CycleOut, FrameOut, PowerOut, VoltageOut}
+use Rattle.instructions.specs.Answers.{leftBy}
+use Rattle.instructions.proofs.Answering.{answers-one, if-split, if-both, test-number, number-number}
+use Rattle.state.specs.Packed.{packed, unpacked, awaitedOf}
+use Rattle.state.specs.Unfit.{unfit, unfitNumber}
+use Rattle.panel.specs.Chip.{PowerUpOut, CycleOut, FrameOut, PowerOut, VoltageOut}
 use Rattle.panel.specs.Bytes.{named, WrittenIf, ReadOut, WriteOut}
 use Rattle.panel.specs.Pictures.{FirstOut, LengthOut, UpdateOut, RedrawOut}
-use Rattle.panel.proofs.Packing.{registers-again, packed-fit}
-
--- ---- what is told alike comes out alike
-
-answers-one : {A B : Type 0} {t u : Told A} {put : A → B} {before after after′ : B} {r r′ : ℕ}
-    → t ≡ u → Answers t put before after r → Answers u put before after′ r′ → (after ≡ after′) × (r ≡ r′)
-answers-one {put = put} {before = before} e f g =
-    (f .left ∙ ap (λ t. leftBy put before (t .value)) e ∙ sym (g .left), f .number ∙ ap (λ t. t .number) e ∙ sym (g .number))
-
--- a promise that depends on a test, by the test
-if-split : {P Q X : Type 0} (t : Bool) → If t P Q → (t ≡ true → P → X) → (t ≡ false → Q → X) → X
-if-split true p f g = f refl p
-if-split false q f g = g refl q
-
-if-both : {P Q P′ Q′ X : Type 0} (t : Bool) → If t P Q → If t P′ Q′ → (P → P′ → X) → (Q → Q′ → X) → X
-if-both true p p′ f g = f p p′
-if-both false q q′ f g = g q q′
+use Rattle.state.proofs.Packing.{registers-again, packed-fit}
 
 -- ---- numbers
-
--- a refusal where a test holds, else what is given
-test-number : {A : Type 0} (t : Bool) (n : ℕ) (x : A) → cond t (refused n) (given x) .number ≡ cond t n 0
-test-number true n x = refl
-test-number false n x = refl
-
--- what is given where the number is 0, else a refusal with it
-number-number : {A : Type 0} (n : ℕ) (x : A) → cond (eqb n 0) (given x) (refused n) .number ≡ n
-number-number n x = split (eqb n 0) (λ t. rw t (sym (eqb-true n 0 t))) (λ t. rw t)
-
--- one test gives a number, and nothing else does
-only : (t : Bool) (n : ℕ) → n ≢ 0 → Exactly (cond t n 0 ≡ 0) (t ≡ false)
-only t n h = let f = past t n 0 0 h in (λ e. f .0 e .0, λ e. f .1 (e, refl))
 
 unfit-some : (wrong : Bool) → unfitNumber wrong ≢ 0
 unfit-some wrong = nowhere wrong wrongSize outOfRange 0 (λ e. omega arith) (λ e. omega arith)

@@ -9,7 +9,7 @@ use lib.Dec.{eqb}
 use borrow.Author.Tests.{eqb-true, eqb-false}
 use Rattle.instructions.specs.Numbers.{numbers0713}
 use Rattle.instructions.specs.declared.numbers.Numbers.{Numbers}
-use Rattle.streams.proofs.Cases.{split}
+use Rattle.instructions.proofs.Cases.{split}
 use Rattle.planner.specs.Pictures.{misfit}
 use Rattle.planner.proofs.Exactly.{misfit-yes, misfit-no}
 

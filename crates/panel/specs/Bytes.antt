@@ -15,8 +15,8 @@ use Rattle.instructions.specs.declared.read.Reading.{Reading}
 use Rattle.instructions.specs.declared.read.Reading.the-variants as reading
 use Rattle.instructions.specs.declared.write.Writing.{Writing}
 use Rattle.instructions.specs.declared.write.Writing.the-variants as writing
-use Rattle.panel.specs.Answers.{Through, If, same}
-use Rattle.panel.specs.State.{flagByte, awaitedOf}
+use Rattle.instructions.specs.Answers.{Through, If, same}
+use Rattle.state.specs.Packed.{flagByte, awaitedOf}
 use Rattle.panel.specs.declared.bytes.Named.{Named}
 use Rattle.panel.specs.declared.bytes.Named.the-variants.{Known, Unknown}
 

@@ -2,9 +2,9 @@
 -- Assumes nothing.
 use Prim.Native.Nat.{ℕ}
 use mathlib.Core.Path.{_≡_}
-use mathlib.Core.Bool.{Bool, cond, _||_}
+use mathlib.Core.Bool.{_||_}
 use mathlib.Core.List.{List}
-use Rattle.instructions.specs.Refusal.{wrongSize, outOfRange}
+use Rattle.instructions.specs.Refusal.{outOfRange}
 use Rattle.instructions.specs.Numbers.{numbers0713}
 use Rattle.registers.specs.Registers.{PoweredUp}
 use Rattle.registers.specs.declared.Registers.{Registers}
@@ -21,8 +21,9 @@ use Rattle.glass.specs.declared.power.PowerState.the-variants.{Normal, Sleep, S
 use Rattle.glass.specs.declared.power.Powered.{Powered}
 use Rattle.glass.specs.declared.power.Powered.the-variants as powered
 use Rattle.planner.specs.Pictures.{misfit}
-use Rattle.panel.specs.Answers.{Through, If, leftBy, same}
-use Rattle.panel.specs.State.{packed, unpacked, unfit}
+use Rattle.instructions.specs.Answers.{Through, If, leftBy, same}
+use Rattle.state.specs.Packed.{packed, unpacked}
+use Rattle.state.specs.Unfit.{unfit, unfitNumber}
 
 -- power-up always gives a state, that of the registers at power-up
 pub record PowerUpOut (state′ : List ℕ) (r : ℕ) : Type 0 where
@@ -30,10 +31,6 @@ pub record PowerUpOut (state′ : List ℕ) (r : ℕ) : Type 0 where
   pub promised : PoweredUp numbers0713 registers
   pub left : state′ ≡ packed registers
   pub number : r ≡ 0
-
--- an unfit state is refused with 2, but with 1 where a buffer's size is wrong
-abbrev pub unfitNumber : Bool → ℕ
-unfitNumber wrong = cond wrong wrongSize outOfRange
 
 -- ---- one cycle
 

@@ -1,8 +1,6 @@
 // The instructions by number, read and written.
 ghost use mathlib.Core.Path.{_≡_};
 ghost use Rattle.panel.specs.Bytes.{numberOf, valueOf, unnamed, byNumber, named, toldNamed, ReadOn, ReadOut, WrittenIf, WriteOut};
-use crate::state::awaited_of;
-use crate::state::flag_byte;
 use instructions::instruction::Instruction;
 use instructions::read::Reading;
 use instructions::read::read_instruction;
@@ -10,6 +8,8 @@ use instructions::refusal::OUT_OF_RANGE;
 use instructions::refusal::OUTSIDE_FIELD;
 use instructions::write::Writing;
 use instructions::write::write_instruction;
+use state::packed::awaited_of;
+use state::packed::flag_byte;
 
 // What a number and a value name.
 pub(crate) enum Named {

@@ -1,10 +1,6 @@
 // The chip over its packed state: power-up, one cycle, the lit frame, the power state and V0.
 ghost use mathlib.Core.Path.{_≡_};
-ghost use Rattle.panel.specs.Chip.{PowerUpOut, unfitNumber, CycledOn, CycleOut, ShownOn, FrameOut, powerByte, PoweredOn, PowerOut, VoltageOut};
-use crate::state::State;
-use crate::state::is_unfit;
-use crate::state::pack;
-use crate::state::unpack;
+ghost use Rattle.panel.specs.Chip.{PowerUpOut, CycledOn, CycleOut, ShownOn, FrameOut, powerByte, PoweredOn, PowerOut, VoltageOut};
 use controller::cycle::Answer;
 use controller::cycle::cycle;
 use glass::frame::Shown;
@@ -16,8 +12,12 @@ use glass::voltage::Voltage;
 use glass::voltage::v0;
 use instructions::numbers::ks0713;
 use instructions::refusal::OUT_OF_RANGE;
-use instructions::refusal::WRONG_SIZE;
 use registers::start::power_up;
+use state::packed::State;
+use state::packed::pack;
+use state::packed::unpack;
+use state::unfit::is_unfit;
+use state::unfit::unfit_number;
 
 // The state at power-up. Refuses nothing.
 #[no_mangle]
@@ -26,13 +26,6 @@ pub extern "C" fn panel_power_up(state: &mut State) -> u8
 {
     *state = pack(power_up());
     0
-}
-
-// The number that an unfit state is refused with: 2, but 1 where a buffer's size is wrong.
-fn unfit_number(wrong: bool) -> u8
-    ensures { λ n. ⌜ n ≡ unfitNumber wrong ⌝ }
-{
-    if wrong { WRONG_SIZE } else { OUT_OF_RANGE }
 }
 
 // One cycle on the registers that the state stands for.

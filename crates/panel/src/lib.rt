@@ -3,4 +3,3 @@
 pub mod bytes;
 pub mod chip;
 pub mod pictures;
-mod state;

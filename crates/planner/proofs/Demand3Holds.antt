@@ -23,7 +23,8 @@ use Rattle.streams.proofs.Length.{update-length, update-most, redraw-length}
 use Rattle.streams.proofs.Updating.{update-right, update-least, update-cut, cut-accepted}
 use Rattle.streams.proofs.Redrawing.{redraw-right, redraw-cut}
 use Rattle.planner.specs.Pictures.{misfit}
-use Rattle.planner.specs.Sent.{kindOf, byteOf, tooShort, over, Sent, redrawRefusal, IsUpdate, IsRedraw}
+use Rattle.instructions.specs.Over.{over}
+use Rattle.planner.specs.Sent.{kindOf, byteOf, tooShort, Sent, redrawRefusal, IsUpdate, IsRedraw}
 use Rattle.planner.specs.Demand3.{PinHigh, Holding, played, pairs, Updates, Redraws}
 use Rattle.planner.specs.declared.count.Count.the-variants.{Bytes}
 

@@ -21,18 +21,20 @@ use Rattle.streams.specs.Stretch.{Place}
 use Rattle.streams.specs.Update.{updateStream}
 use Rattle.streams.specs.Length.{updateLength}
 use Rattle.streams.specs.Redraw.{redrawStream}
-use Rattle.streams.proofs.Cases.{split}
+use Rattle.instructions.proofs.Cases.{split}
 use Rattle.streams.proofs.Pictures.{differs-true, differs-false, same-nowhere, nowhere-same}
 use Rattle.streams.proofs.Length.{update-length, update-most, redraw-length}
 use Rattle.planner.specs.Pictures.{misfit}
 use Rattle.planner.specs.First.{firstFrom, firstDifference, toldFound, IsFirst}
 use Rattle.planner.specs.Count.{toldCount, IsLength}
-use Rattle.planner.specs.Sent.{byteOf, kindOf, tooShort, over, Sent, updateRefusal, redrawRefusal, IsUpdate, IsRedraw}
+use Rattle.instructions.specs.Over.{over}
+use Rattle.planner.specs.Sent.{byteOf, kindOf, tooShort, Sent, updateRefusal, redrawRefusal, IsUpdate, IsRedraw}
 use Rattle.planner.specs.declared.count.Count.{Count}
 use Rattle.planner.specs.declared.count.Count.the-variants as count
 use Rattle.planner.specs.declared.first.Found.{Found}
 use Rattle.planner.specs.declared.first.Found.the-variants as found
-use Rattle.planner.proofs.Exactly.{Exactly, WrongSize, RightSize, ShortOutput, then, both, same-number, here, past, nowhere, among, misfit-yes, misfit-no, wrong-size, right-size, short-output}
+use Rattle.instructions.proofs.Exactly.{Exactly, then, both, same-number, here, past, nowhere, among}
+use Rattle.planner.proofs.Exactly.{WrongSize, RightSize, ShortOutput, misfit-yes, misfit-no, wrong-size, right-size, short-output}
 use Rattle.planner.proofs.Scanning.{from-at, none-at, from-none, first-given}
 
 -- ---- what is told of an answer tells all answers apart

@@ -11,7 +11,7 @@ use native.Mathlib.Omega.{arith}
 use Rattle.streams.specs.Picture.{differs}
 use Rattle.streams.specs.Stretch.{Place}
 use Rattle.instructions.specs.Told.{given}
-use Rattle.streams.proofs.Cases.{split, less}
+use Rattle.instructions.proofs.Cases.{split, less}
 use Rattle.planner.specs.Pictures.{misfit}
 use Rattle.planner.specs.First.{firstOn, firstFrom, firstDifference}
 

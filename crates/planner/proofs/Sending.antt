@@ -24,7 +24,7 @@ use Rattle.planner.specs.Pictures.{misfit}
 use Rattle.planner.specs.Sent.{byteOf, kindOf, tooShort, Sent, updateRefusal, redrawRefusal, IsUpdate, IsRedraw}
 use Rattle.planner.specs.Output.{shorter, Room, Wrote}
 use Rattle.planner.specs.declared.count.Count.the-variants.{Bytes, Refused}
-use Rattle.planner.proofs.Showing.{or-left, or-right}
+use Rattle.instructions.proofs.Either.{or-left, or-right}
 use Rattle.planner.proofs.Writing.{put-over}
 
 -- ---- any stream

@@ -2,14 +2,15 @@
 -- misfits.
 -- Assumes nothing.
 use Prim.Native.Nat.{ℕ, _*_, _≤_}
-use mathlib.Core.Path.{_≡_, refl, sym, subst, _∙_}
-use mathlib.Core.Bool.{Bool, true, false, not, _||_}
+use mathlib.Core.Path.{_≡_, sym, _∙_}
+use mathlib.Core.Bool.{Bool, false, not, _||_}
 use mathlib.Core.List.{List}
 use lib.ListN.{length}
-use lib.Dec.{T, eqb}
+use lib.Dec.{eqb}
 use borrow.Author.Tests.{eqb-true, eqb-false, not-false}
 use Rattle.streams.specs.Picture.{shown, differs}
-use Rattle.streams.proofs.Cases.{split}
+use Rattle.instructions.proofs.Cases.{split}
+use Rattle.instructions.proofs.Either.{or-left, or-right}
 use Rattle.streams.proofs.Pictures.{differs-yes, differs-no}
 use Rattle.planner.specs.Pictures.{misfit, Pictures}
 use Rattle.planner.specs.Output.{Fits}
@@ -26,14 +27,6 @@ told e h = sym e ∙ h
 
 pub tested : {a b x y t : Bool} → a ≡ x → b ≡ y → (a || b) ≡ t → (x || y) ≡ t
 tested e f h = rw (e, f) at h
-
-pub or-left : (a b : Bool) → (a || b) ≡ false → a ≡ false
-or-left false b e = refl
-or-left true b e = absurd (subst T e tt)
-
-pub or-right : (a b : Bool) → (a || b) ≡ false → b ≡ false
-or-right false b e = e
-or-right true b e = absurd (subst T e tt)
 
 long : (W : ℕ) (a : List ℕ) → misfit W a ≡ false → length a ≡ 9 * W
 unfolding misfit

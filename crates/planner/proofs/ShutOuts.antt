@@ -17,7 +17,8 @@ use Rattle.streams.proofs.Length.{update-length}
 use Rattle.streams.proofs.Walking.{redraw-walk}
 use Rattle.planner.specs.Pictures.{misfit}
 use Rattle.planner.specs.Count.{IsLength}
-use Rattle.planner.specs.Sent.{byteOf, over, Sent, IsUpdate, IsRedraw}
+use Rattle.instructions.specs.Over.{over}
+use Rattle.planner.specs.Sent.{byteOf, Sent, IsUpdate, IsRedraw}
 use Rattle.planner.specs.declared.count.Count.the-variants.{Bytes, Refused}
 use Rattle.planner.proofs.Exactly.{RightSize}
 use Rattle.planner.proofs.Promised.{update-always, redraw-always}

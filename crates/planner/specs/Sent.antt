@@ -3,11 +3,12 @@
 use Prim.Native.Nat.{ℕ}
 use mathlib.Core.Path.{_≡_}
 use mathlib.Core.Bool.{Bool, cond, _||_}
-use mathlib.Core.List.{List, _++_, map}
-use lib.ListN.{length, drop}
+use mathlib.Core.List.{List, map}
+use lib.ListN.{length}
 use lib.Dec.{ltb, eqb}
 use Rattle.instructions.specs.Refusal.{wrongSize, shortOutput, outsideField}
 use Rattle.instructions.specs.Told.{given, refused}
+use Rattle.instructions.specs.Over.{over}
 use Rattle.controller.specs.Run.{BusCycle}
 use Rattle.streams.specs.Update.{updateStream}
 use Rattle.streams.specs.Redraw.{redrawStream}
@@ -24,10 +25,6 @@ byteOf x = x .1
 -- either output is shorter than the stream needs
 unfoldable pub tooShort : List BusCycle → List ℕ → List ℕ → Bool
 tooShort s out kinds = ltb (length out) (length s) || ltb (length kinds) (length s)
-
--- an output with a stream's bytes, or kinds, in front: a longer output keeps its bytes past the stream
-unfoldable pub over : List ℕ → List ℕ → List ℕ
-over bytes out = bytes ++ drop (length bytes) out
 
 -- a call refused with `number`, 0 for none, that is to send s: the stream's length is answered, and its bytes and kinds are in the
 -- outputs; a refusal leaves both

@@ -12,7 +12,7 @@ use Rattle.streams.specs.Picture.{differs}
 use Rattle.streams.specs.Update.{Run, joins, join, joinIf, runs, updateStream}
 use Rattle.streams.specs.Walk.{walkPages}
 use Rattle.streams.specs.Shape.{Equal, Edge, Tidy, groups}
-use Rattle.streams.proofs.Cases.{split, less}
+use Rattle.instructions.proofs.Cases.{split, less}
 use Rattle.streams.proofs.Runs.{joins-far}
 use Rattle.streams.proofs.Walking.{page-walk, update-walk}
 

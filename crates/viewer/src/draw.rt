@@ -7,7 +7,8 @@ ghost use Prim.Native.Nat.{_+_, _≤_, _<_};
 ghost use lib.ListN.{length};
 ghost use Rattle.instructions.specs.Numbers.{numbers0713};
 ghost use Rattle.registers.specs.Registers.{Ranged};
-ghost use Rattle.glass.specs.Frame.{frameOf, listed};
+ghost use Rattle.instructions.specs.Listed.{listed};
+ghost use Rattle.glass.specs.Frame.{frameOf};
 ghost use Rattle.viewer.specs.Drawn.{glyph};
 
 // Room for a frame. It stands in a function of its own, so that its bytes are not computed where it is used.

@@ -14,11 +14,12 @@ use Rattle.instructions.specs.declared.instruction.Awaited.the-variants as awai
 use Rattle.registers.specs.declared.ModifyRead.{ModifyRead}
 use Rattle.registers.specs.declared.ModifyRead.the-variants.{Off, On}
 use Rattle.registers.specs.declared.Registers.{Registers}
-use Rattle.glass.specs.Frame.{listed}
-use Rattle.glass.proofs.Listed.{whole}
-use Rattle.streams.proofs.Cases.{less}
-use Rattle.planner.proofs.Showing.{or-left, or-right}
-use Rattle.panel.specs.State.{flagByte, modifyByte, savedByte, modifyOf, awaitedByte, awaitedOf, packed, unpacked, above, oddFlag, spareUsed, unfit}
+use Rattle.instructions.specs.Listed.{listed}
+use Rattle.instructions.proofs.Listed.{whole}
+use Rattle.instructions.proofs.Cases.{less}
+use Rattle.instructions.proofs.Either.{or-left, or-right}
+use Rattle.state.specs.Packed.{flagByte, modifyByte, savedByte, modifyOf, awaitedByte, awaitedOf, packed, unpacked}
+use Rattle.state.specs.Unfit.{above, oddFlag, spareUsed, unfit}
 
 -- ---- the registers again
 

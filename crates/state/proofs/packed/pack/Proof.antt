@@ -1,9 +1,9 @@
--- `panel::state::pack` meets its contract: each register at its offset.
+-- `state::packed::pack` meets its contract: each register at its offset.
 -- Assumes nothing.
 use borrow.Author.Needs.{needs}
-use Rattle.panel.specs.State.{packed}
-use Rattle.panel.proofs.state.pack.Statement.{statement}
-use Rattle.panel.proofs.state.pack.Tie as tie
+use Rattle.state.specs.Packed.{packed}
+use Rattle.state.proofs.packed.pack.Statement.{statement}
+use Rattle.state.proofs.packed.pack.Tie as tie
 
 pub pack-spec : {M : Type 1} → statement M
 unfolding packed

@@ -1,10 +1,10 @@
--- `panel::state::is_unfit` meets its contract: the tests are those of the definition.
+-- `state::unfit::is_unfit` meets its contract: the tests are those of the definition.
 -- Assumes nothing.
 use mathlib.Core.Path.{refl}
 use borrow.Author.Needs.{needs}
-use Rattle.panel.specs.State.{unfit}
-use Rattle.panel.proofs.state.is_unfit.Statement.{statement}
-use Rattle.panel.proofs.state.is_unfit.Tie as tie
+use Rattle.state.specs.Unfit.{unfit}
+use Rattle.state.proofs.unfit.is_unfit.Statement.{statement}
+use Rattle.state.proofs.unfit.is_unfit.Tie as tie
 
 pub is-unfit-spec : {M : Type 1} → statement M
 unfolding unfit

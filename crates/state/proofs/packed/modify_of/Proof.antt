@@ -1,8 +1,8 @@
--- `panel::state::modify_of` meets its contract.
+-- `state::packed::modify_of` meets its contract.
 -- Assumes nothing.
 use Rattle.instructions.proofs.Tests.{tests}
-use Rattle.panel.proofs.state.modify_of.Statement.{statement}
-use Rattle.panel.proofs.state.modify_of.Tie as tie
+use Rattle.state.proofs.packed.modify_of.Statement.{statement}
+use Rattle.state.proofs.packed.modify_of.Tie as tie
 
 pub modify-of-spec : {M : Type 1} → statement M
 modify-of-spec =

@@ -1,10 +1,10 @@
 -- The state: the registers in 32 bytes, each at its offset, the spare ones 0.
 -- Assumes nothing.
-use Prim.Native.Nat.{ℕ, zero, suc, _+_}
-use mathlib.Core.Bool.{Bool, true, false, cond, _&&_, _||_}
+use Prim.Native.Nat.{ℕ}
+use mathlib.Core.Bool.{Bool, true, false, cond}
 use mathlib.Core.List.{List, [], _∷_}
 use lib.ListN.{getD}
-use lib.Dec.{ltb, eqb}
+use lib.Dec.{eqb}
 use Rattle.instructions.specs.declared.instruction.Awaited.{Awaited}
 use Rattle.instructions.specs.declared.instruction.Awaited.the-variants as awaited
 use Rattle.registers.specs.Registers.{regs, column}
@@ -57,23 +57,3 @@ unpacked b =
     regs (getD b 0 0) (column (getD b 1 0)) (getD b 2 0) (getD b 3 0) (getD b 4 0) (getD b 5 0)
     (eqb (getD b 6 0) 1) (eqb (getD b 7 0) 1) (eqb (getD b 8 0) 1) (eqb (getD b 9 0) 1) (eqb (getD b 10 0) 1) (eqb (getD b 11 0) 1)
     (eqb (getD b 12 0) 1) (getD b 13 0) (getD b 14 0) (eqb (getD b 15 0) 1) (modifyOf (getD b 16 0) (getD b 17 0)) (awaitedOf (getD b 18 0))
-
--- ---- bytes that stand for no registers
-
--- one of the n bytes from i on is above `most`
-abbrev pub above : ℕ → List ℕ → ℕ → ℕ → Bool
-above most b i zero = false
-above most b i (suc n) = above most b i n || ltb most (getD b (i + n) 0)
-
--- a byte that is to be 0 or 1 is neither: offsets 6 to 12, 15 and 16
-unfoldable pub oddFlag : List ℕ → Bool
-oddFlag b = above 1 b 6 7 || ltb 1 (getD b 15 0) || ltb 1 (getD b 16 0)
-
--- a spare byte is not 0
-unfoldable pub spareUsed : List ℕ → Bool
-spareUsed b = above 0 b 19 13
-
--- the bytes stand for no registers: a flag is neither 0 nor 1, a column is saved while modify-read is off, the awaited byte is none
--- of the three, or a spare byte is not 0. The other registers' ranges are the controller's `outside`; both are refused with 2
-unfoldable pub unfit : List ℕ → Bool
-unfit b = oddFlag b || (eqb (getD b 16 0) 0 && ltb 0 (getD b 17 0)) || ltb 2 (getD b 18 0) || spareUsed b

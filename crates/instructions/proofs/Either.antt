@@ -17,3 +17,9 @@ or-true false b (inr e) = e
 pub neither : (a b : Bool) → a || b ≡ false → (a ≡ false) × (b ≡ false)
 neither true b e = absurd (subst T e tt)
 neither false b e = (refl, e)
+
+pub or-left : (a b : Bool) → (a || b) ≡ false → a ≡ false
+or-left a b e = neither a b e .0
+
+pub or-right : (a b : Bool) → (a || b) ≡ false → b ≡ false
+or-right a b e = neither a b e .1

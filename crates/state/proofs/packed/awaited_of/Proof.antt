@@ -1,8 +1,8 @@
--- `panel::state::awaited_of` meets its contract.
+-- `state::packed::awaited_of` meets its contract.
 -- Assumes nothing.
 use Rattle.instructions.proofs.Tests.{tests}
-use Rattle.panel.proofs.state.awaited_of.Statement.{statement}
-use Rattle.panel.proofs.state.awaited_of.Tie as tie
+use Rattle.state.proofs.packed.awaited_of.Statement.{statement}
+use Rattle.state.proofs.packed.awaited_of.Tie as tie
 
 pub awaited-of-spec : {M : Type 1} → statement M
 awaited-of-spec =

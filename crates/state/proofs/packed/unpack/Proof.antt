@@ -1,9 +1,9 @@
--- `panel::state::unpack` meets its contract: each register from its offset.
+-- `state::packed::unpack` meets its contract: each register from its offset.
 -- Assumes nothing.
 use borrow.Author.Needs.{needs}
-use Rattle.panel.specs.State.{unpacked}
-use Rattle.panel.proofs.state.unpack.Statement.{statement}
-use Rattle.panel.proofs.state.unpack.Tie as tie
+use Rattle.state.specs.Packed.{unpacked}
+use Rattle.state.proofs.packed.unpack.Statement.{statement}
+use Rattle.state.proofs.packed.unpack.Tie as tie
 
 pub unpack-spec : {M : Type 1} → statement M
 unfolding unpacked

@@ -1,6 +1,6 @@
 // The state: the registers in 32 bytes, each at its offset, the spare ones 0.
 ghost use mathlib.Core.Path.{_≡_};
-ghost use Rattle.panel.specs.State.{flagByte, modifyByte, savedByte, awaitedByte, modifyOf, awaitedOf, packed, unpacked, oddFlag, spareUsed, unfit};
+ghost use Rattle.state.specs.Packed.{flagByte, modifyByte, savedByte, awaitedByte, modifyOf, awaitedOf, packed, unpacked};
 use instructions::instruction::Awaited;
 use registers::Column;
 use registers::ModifyRead;
@@ -21,34 +21,34 @@ const RESISTOR: usize = 4;
 
 const POWER: usize = 5;
 
-const BIAS: usize = 6;
+pub(crate) const BIAS: usize = 6;
 
-const ADC: usize = 7;
+pub(crate) const ADC: usize = 7;
 
-const SHL: usize = 8;
+pub(crate) const SHL: usize = 8;
 
-const REVERSE: usize = 9;
+pub(crate) const REVERSE: usize = 9;
 
-const ENTIRE: usize = 10;
+pub(crate) const ENTIRE: usize = 10;
 
-const ON: usize = 11;
+pub(crate) const ON: usize = 11;
 
-const INDICATOR: usize = 12;
+pub(crate) const INDICATOR: usize = 12;
 
 const INDICATOR_VALUE: usize = 13;
 
 const HOLDER: usize = 14;
 
-const PIN_LOW: usize = 15;
+pub(crate) const PIN_LOW: usize = 15;
 
-const MODIFY_READ: usize = 16;
+pub(crate) const MODIFY_READ: usize = 16;
 
-const SAVED_COLUMN: usize = 17;
+pub(crate) const SAVED_COLUMN: usize = 17;
 
-const AWAITED: usize = 18;
+pub(crate) const AWAITED: usize = 18;
 
 // A register of 0 or 1 as a byte.
-pub(crate) fn flag_byte(on: bool) -> u8
+pub fn flag_byte(on: bool) -> u8
     ensures { λ b. ⌜ b ≡ flagByte on ⌝ }
 {
     if on { 1 } else { 0 }
@@ -96,7 +96,7 @@ fn modify_of(byte: u8, saved: u8) -> ModifyRead
 }
 
 // What is awaited, from its byte.
-pub(crate) fn awaited_of(byte: u8) -> Awaited
+pub fn awaited_of(byte: u8) -> Awaited
     ensures { λ a. ⌜ a ≡ awaitedOf byte ⌝ }
 {
     if byte == 1 {
@@ -109,7 +109,7 @@ pub(crate) fn awaited_of(byte: u8) -> Awaited
 }
 
 // The bytes that stand for the registers.
-pub(crate) fn pack(registers: Registers) -> State
+pub fn pack(registers: Registers) -> State
     ensures { λ b. ⌜ b ≡ packed registers ⌝ }
 {
     let mode = registers.modify_read;
@@ -138,7 +138,7 @@ pub(crate) fn pack(registers: Registers) -> State
 }
 
 // The registers that the bytes stand for.
-pub(crate) fn unpack(state: &State) -> Registers
+pub fn unpack(state: &State) -> Registers
     ensures { λ r. ⌜ r ≡ unpacked (now (state .entry)) ⌝ }
 {
     let mode = modify_of(state[MODIFY_READ], state[SAVED_COLUMN]);
@@ -163,47 +163,4 @@ pub(crate) fn unpack(state: &State) -> Registers
         modify_read: mode,
         awaited,
     }
-}
-
-// Whether a byte that is to be 0 or 1 is neither.
-fn odd_flag(state: &State) -> bool
-    ensures { λ t. ⌜ t ≡ oddFlag (now (state .entry)) ⌝ }
-{
-    (1 < state[BIAS])
-        | (1 < state[ADC])
-        | (1 < state[SHL])
-        | (1 < state[REVERSE])
-        | (1 < state[ENTIRE])
-        | (1 < state[ON])
-        | (1 < state[INDICATOR])
-        | (1 < state[PIN_LOW])
-        | (1 < state[MODIFY_READ])
-}
-
-// Whether a spare byte is not 0.
-fn spare_used(state: &State) -> bool
-    ensures { λ t. ⌜ t ≡ spareUsed (now (state .entry)) ⌝ }
-{
-    (0 < state[19])
-        | (0 < state[20])
-        | (0 < state[21])
-        | (0 < state[22])
-        | (0 < state[23])
-        | (0 < state[24])
-        | (0 < state[25])
-        | (0 < state[26])
-        | (0 < state[27])
-        | (0 < state[28])
-        | (0 < state[29])
-        | (0 < state[30])
-        | (0 < state[31])
-}
-
-// Whether the bytes stand for no registers. What is left to test then are the ranges of the registers, which the crates below do.
-pub(crate) fn is_unfit(state: &State) -> bool
-    ensures { λ t. ⌜ t ≡ unfit (now (state .entry)) ⌝ }
-{
-    let odd = odd_flag(state);
-    let used = spare_used(state);
-    odd | ((state[MODIFY_READ] == 0) & (0 < state[SAVED_COLUMN])) | (2 < state[AWAITED]) | used
 }

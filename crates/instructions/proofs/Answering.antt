@@ -1,0 +1,53 @@
+-- What each way out of a call has: an answer that is given goes into the out-parameters, a refusal leaves them; and what is told alike
+-- comes out alike.
+-- Assumes nothing.
+use Prim.Native.Nat.{ℕ}
+use mathlib.Core.Path.{_≡_, _∙_, refl, ap, sym}
+use mathlib.Core.Bool.{Bool, true, false, cond}
+use lib.Dec.{eqb}
+use borrow.Author.Tests.{eqb-true}
+use Rattle.instructions.specs.Told.{Told, given, refused}
+use Rattle.instructions.specs.Answers.{leftBy, Answers, Through, If}
+use Rattle.instructions.proofs.Cases.{split}
+
+module _ {C A B : Type 0} {Is : C → Type 0} {told : C → Told A} {put : A → B} {before : B} where
+  pub gives : (a : C) (x : A) → Is a → told a ≡ given x → Through Is told put before (put x) 0
+  gives a x h e = record {
+    answer = a;
+    promised = h;
+    answers = record { number = sym (ap (λ t. t .number) e); left = sym (ap (λ t. leftBy put before (t .value)) e) };
+  }
+
+  pub refuses : (a : C) (n : ℕ) → Is a → told a ≡ refused n → Through Is told put before before n
+  refuses a n h e = record {
+    answer = a;
+    promised = h;
+    answers = record { number = sym (ap (λ t. t .number) e); left = sym (ap (λ t. leftBy put before (t .value)) e) };
+  }
+
+-- ---- what is told alike comes out alike
+
+pub answers-one : {A B : Type 0} {t u : Told A} {put : A → B} {before after after′ : B} {r r′ : ℕ}
+    → t ≡ u → Answers t put before after r → Answers u put before after′ r′ → (after ≡ after′) × (r ≡ r′)
+answers-one {put = put} {before = before} e f g =
+    (f .left ∙ ap (λ t. leftBy put before (t .value)) e ∙ sym (g .left), f .number ∙ ap (λ t. t .number) e ∙ sym (g .number))
+
+-- a promise that depends on a test, by the test
+pub if-split : {P Q X : Type 0} (t : Bool) → If t P Q → (t ≡ true → P → X) → (t ≡ false → Q → X) → X
+if-split true p f g = f refl p
+if-split false q f g = g refl q
+
+pub if-both : {P Q P′ Q′ X : Type 0} (t : Bool) → If t P Q → If t P′ Q′ → (P → P′ → X) → (Q → Q′ → X) → X
+if-both true p p′ f g = f p p′
+if-both false q q′ f g = g q q′
+
+-- ---- numbers
+
+-- a refusal where a test holds, else what is given
+pub test-number : {A : Type 0} (t : Bool) (n : ℕ) (x : A) → cond t (refused n) (given x) .number ≡ cond t n 0
+test-number true n x = refl
+test-number false n x = refl
+
+-- what is given where the number is 0, else a refusal with it
+pub number-number : {A : Type 0} (n : ℕ) (x : A) → cond (eqb n 0) (given x) (refused n) .number ≡ n
+number-number n x = split (eqb n 0) (λ t. rw t (sym (eqb-true n 0 t))) (λ t. rw t)

@@ -1,0 +1,45 @@
+-- One thing exactly if another, and which of some tests in a row gives a number.
+-- Assumes nothing.
+use Prim.Native.Nat.{ℕ}
+use mathlib.Core.Path.{_≡_, refl, sym, subst, _∙_}
+use mathlib.Core.Logic.{_≢_, _⊎_, inl, inr}
+use mathlib.Core.Bool.{Bool, true, false, cond}
+use lib.Dec.{T}
+
+-- the one holds exactly if the other does
+abbrev pub Exactly : Type 0 → Type 0 → Type 0
+Exactly A B = (A → B) × (B → A)
+
+pub then : {A B C : Type 0} → Exactly A B → Exactly B C → Exactly A C
+then f g = (λ x. g .0 (f .0 x), λ x. f .1 (g .1 x))
+
+pub both : {A B C D : Type 0} → Exactly A B → Exactly C D → Exactly (A × C) (B × D)
+both f g = (λ x. (f .0 (x .0), g .0 (x .1)), λ x. (f .1 (x .0), g .1 (x .1)))
+
+pub same-number : {m n k : ℕ} → m ≡ n → Exactly (m ≡ k) (n ≡ k)
+same-number e = (λ f. sym e ∙ f, λ f. e ∙ f)
+
+-- ---- tests in a row: the first that holds gives its number
+
+-- this one gives it
+pub here : (t : Bool) (m rest : ℕ) → rest ≢ m → Exactly (cond t m rest ≡ m) (t ≡ true)
+here true m rest h = (λ e. refl, λ e. refl)
+here false m rest h = (λ e. absurd (h e), λ e. absurd (subst T (sym e) tt))
+
+-- one after it gives it
+pub past : (t : Bool) (m rest k : ℕ) → m ≢ k → Exactly (cond t m rest ≡ k) ((t ≡ false) × (rest ≡ k))
+past true m rest k h = (λ e. absurd (h e), λ e. absurd (subst T (e .0) tt))
+past false m rest k h = (λ e. (refl, e), λ e. e .1)
+
+-- none gives it
+pub nowhere : (t : Bool) (m rest k : ℕ) → m ≢ k → rest ≢ k → cond t m rest ≢ k
+nowhere true m rest k h l = h
+nowhere false m rest k h l = l
+
+pub among : (t : Bool) (m rest n : ℕ) → n ≡ cond t m rest → (n ≡ m) ⊎ (n ≡ rest)
+among true m rest n e = inl e
+among false m rest n e = inr e
+
+-- one test gives a number, and nothing else does
+pub only : (t : Bool) (n : ℕ) → n ≢ 0 → Exactly (cond t n 0 ≡ 0) (t ≡ false)
+only t n h = let f = past t n 0 0 h in (λ e. f .0 e .0, λ e. f .1 (e, refl))

@@ -1,2 +1,3 @@
 pub mod Playing
-pub mod Unique
+pub mod Running
+pub mod Promised

@@ -1,31 +1,24 @@
--- One cycle by its answer, the cycles of a list of bytes a turn at a time, and what a run keeps.
+-- The cycles of a list of bytes a turn at a time: what is left, played and put now, gives the whole.
 -- Assumes nothing.
 use Prim.Native.Nat.{ℕ, suc, _+_, _*_, _/_, _≤_, _<_}
 use mathlib.Core.Path.{_≡_, refl, sym, ap, _∙_}
 use mathlib.Core.List.{List, [], _∷_}
+use native.Mathlib.Numerals.{add-one}
 use native.Mathlib.Omega.{arith}
-use lib.ListN.{length, getD, drop, length-drop}
+use lib.ListN.{length, getD, set, drop, length-drop}
 use lib.Seq.{drop-cons}
-use Rattle.instructions.specs.Numbers.{Sensible, numbers0713}
 use Rattle.instructions.specs.declared.numbers.Numbers.{Numbers}
-use Rattle.registers.specs.Registers.{Ranged, PoweredUp}
 use Rattle.registers.specs.declared.Registers.{Registers}
-use Rattle.controller.specs.Cycle.{Outcome, outcome, answer, memoryAfter, Cycled}
-use Rattle.controller.specs.State.{State, state, afterBy, step, run}
 use Rattle.controller.specs.Run.{BusCycle}
-use Rattle.controller.specs.declared.cycle.Answer.{Answer}
-use Rattle.controller.proofs.Ranges.{stays-ranged}
-use Rattle.bus.specs.Cycles.{cyclesOf, IsRun, fromPowerUp}
-use Rattle.bus.specs.Column.{IsColumn}
+use Rattle.controller.specs.State.{State, state, step, run}
+use Rattle.controller.specs.Turn.{IsTurn}
+use Rattle.controller.specs.declared.turn.Turn.{Turn}
+use Rattle.controller.proofs.Turning.{turn-steps}
+use Rattle.bus.specs.Cycles.{cyclesOf, turns}
+use Rattle.bus.specs.Run.{Outputs, outputs, readOf}
+use Rattle.bus.specs.Filling.{putAt, putFrom, TurnPut, Filled}
 
--- whatever a cycle answers, the registers that its answer leaves and the memory are those after it
-pub turned : (r : Registers) (m : List ℕ) (x : BusCycle) {a : Answer} {left : List ℕ} → Cycled numbers0713 r m (x .0) (x .1) a left
-    → (b : Answer) → a ≡ b → state (afterBy r (outcome b .registers)) left ≡ step numbers0713 (state r m) x
-turned r m x q b e =
-    let t : outcome b ≡ answer numbers0713 r m (x .0) (x .1) = ap outcome (sym e) ∙ q .tells in
-    rw (q .leaves) (ap (λ (z : Outcome). state (afterBy r (z .registers)) (memoryAfter numbers0713 r m (x .0) (x .1))) t)
-
--- ---- a turn
+-- ---- bytes as cycles
 
 -- the two bytes at a place, and the rest
 pub two : (bytes : List ℕ) (j : ℕ) → suc j < length bytes → drop j bytes ≡ getD bytes j 0 ∷ getD bytes (suc j) 0 ∷ drop (suc (suc j)) bytes
@@ -43,43 +36,54 @@ few [] h = refl
 few (kind ∷ []) h = refl
 few (kind ∷ value ∷ rest) h = absurd (omega arith)
 
-module _ (k : Numbers) (s : State) (bytes : List ℕ) (i : ℕ) where
-  pub run-next : i < length bytes / 2
-      → run k s (cyclesOf (drop (2 * i) bytes)) ≡ run k (step k s (getD bytes (2 * i) 0, getD bytes (2 * i + 1) 0)) (cyclesOf (drop (2 * (i + 1)) bytes))
-  unfolding cyclesOf
-  run-next h =
-      let e : 2 * (i + 1) ≡ suc (suc (2 * i)) = omega arith in
-      let f : 2 * i + 1 ≡ suc (2 * i) = omega arith in
-      ap (λ (l : List ℕ). run k s (cyclesOf l)) (two bytes (2 * i) (omega arith)) ∙ rw (e, f) refl
+-- as many as there are pairs of bytes
+pub cycles-count : (bytes : List ℕ) → length (cyclesOf bytes) ≡ length bytes / 2
+unfolding cyclesOf
+cycles-count [] = refl
+cycles-count (kind ∷ []) = refl
+cycles-count (kind ∷ value ∷ rest) = let e = cycles-count rest in omega arith
 
-  pub run-end : length bytes / 2 ≤ i → run k s (cyclesOf (drop (2 * i) bytes)) ≡ s
-  run-end h = ap (run k s) (few (drop (2 * i) bytes) (rw (length-drop (2 * i) bytes) (omega arith)))
+pub turns-count : (k : Numbers) (s : State) (xs : List BusCycle) → length (turns k s xs) ≡ length xs
+turns-count k s [] = refl
+turns-count k s (x ∷ xs) = ap suc (turns-count k (step k s x) xs)
 
--- ---- a run from power-up
+-- the cycle at index i, and those after it
+cycles-at : (bytes : List ℕ) (i : ℕ) → i < length bytes / 2
+    → cyclesOf (drop (2 * i) bytes) ≡ (getD bytes (2 * i) 0, getD bytes (2 * i + 1) 0) ∷ cyclesOf (drop (2 * (i + 1)) bytes)
+cycles-at bytes i h =
+    let e : 2 * (i + 1) ≡ suc (suc (2 * i)) = omega arith in
+    let f : 2 * i + 1 ≡ suc (2 * i) = omega arith in
+    ap cyclesOf (two bytes (2 * i) (omega arith)) ∙ rw (e, f) (cycles-next (getD bytes (2 * i) 0) (getD bytes (suc (2 * i)) 0) (drop (suc (suc (2 * i))) bytes))
 
-pub from-power-up : {k : Numbers} {r : Registers} {m bytes : List ℕ} {after : Registers} {left : List ℕ} → PoweredUp k r → IsRun k r m bytes after left
-    → state after left ≡ fromPowerUp k m bytes
-from-power-up p q = rw (p .tells) at (q .tells)
+-- ---- a turn
 
-pub column-told : {k : Numbers} {r : Registers} {m bytes : List ℕ} {after : Registers} {left : List ℕ} → PoweredUp k r → IsRun k r m bytes after left
-    → IsColumn k m bytes (after .column .0) left
-column-told p q =
-    let e = from-power-up p q in
-    record { tells = ap (λ (s : State). s .registers .column .0) e; leaves = ap (λ (s : State). s .memory) e }
+-- what a cycle answers goes into the outputs at entry i
+pub turn-put : {k : Numbers} {r : Registers} {m left : List ℕ} {kind value : ℕ} {t : Turn} (o : Outputs) (i read : ℕ)
+    → IsTurn k r m kind value t left → read ≡ readOf t
+    → TurnPut k (state r m) (kind, value) o i (state (t .registers) left) (outputs (set (o .numbers) i (t .number)) (set (o .reads) i read) (set (o .bytes) i (t .byte)))
+turn-put o i read q e = record { after = turn-steps q; put = rw e (ap (putAt o i) (q .tells)) }
 
--- ---- the registers stay in their ranges
+-- ---- the whole list
 
-module _ (k : Numbers) (g : Sensible k) where
-  run-ranged : (s : State) (xs : List BusCycle) → Ranged k (s .registers) → Ranged k (run k s xs .registers)
-  run-ranged s [] h = h
-  run-ranged s (x ∷ xs) h = run-ranged (step k s x) xs (stays-ranged k g (s .registers) (s .memory) (x .0) (x .1) h)
+-- what is left from index i on, played and put now, gives this chip and these outputs
+pub record Left (k : Numbers) (s : State) (o : Outputs) (i : ℕ) (bytes : List ℕ) (s₀ : State) (o₀ : Outputs) : Type 0 where
+  pub played : run k s (cyclesOf (drop (2 * i) bytes)) ≡ run k s₀ (cyclesOf bytes)
+  pub put : putFrom o i (turns k s (cyclesOf (drop (2 * i) bytes))) ≡ putFrom o₀ 0 (turns k s₀ (cyclesOf bytes))
 
-  powered-ranged : (r : Registers) → PoweredUp k r → Ranged k r
-  powered-ranged r p = rw (p .tells) (omega (arith, g .wide, g .first))
+module _ {k : Numbers} {s : State} {o : Outputs} {i : ℕ} {bytes : List ℕ} {s₀ : State} {o₀ : Outputs} (left : Left k s o i bytes s₀ o₀) where
+  pub left-next : {s′ : State} {o′ : Outputs} → i < length bytes / 2 → TurnPut k s (getD bytes (2 * i) 0, getD bytes (2 * i + 1) 0) o i s′ o′
+      → Left k s′ o′ (i + 1) bytes s₀ o₀
+  left-next {s′} {o′} h t = record {
+    played = rw (t .after) (rw (cycles-at bytes i h) at (left .played));
+    put =
+        ap (λ (j : ℕ). putFrom o′ j (turns k s′ (cyclesOf (drop (2 * (i + 1)) bytes)))) (add-one i)
+        ∙ ap (λ (x : State). putFrom o′ (suc i) (turns k x (cyclesOf (drop (2 * (i + 1)) bytes)))) (t .after)
+        ∙ ap (λ (x : Outputs). putFrom x (suc i) (turns k (step k s (getD bytes (2 * i) 0, getD bytes (2 * i + 1) 0)) (cyclesOf (drop (2 * (i + 1)) bytes)))) (t .put)
+        ∙ ap (λ (xs : List BusCycle). putFrom o i (turns k s xs)) (sym (cycles-at bytes i h))
+        ∙ left .put;
+  }
 
-  -- a run that starts in range ends in range, and so does one from power-up
-  pub stay-ranged : {r : Registers} {m bytes : List ℕ} {after : Registers} {left : List ℕ} → Ranged k r → IsRun k r m bytes after left → Ranged k after
-  stay-ranged {r} {m} {bytes} h q = rw (ap (λ (s : State). s .registers) (q .tells)) (run-ranged (state r m) (cyclesOf bytes) h)
-
-  pub in-range : {r : Registers} {m bytes : List ℕ} {after : Registers} {left : List ℕ} → PoweredUp k r → IsRun k r m bytes after left → Ranged k after
-  in-range {r} p q = stay-ranged (powered-ranged r p) q
+  pub left-none : length bytes / 2 ≤ i → Filled k s₀ (cyclesOf bytes) o₀ 0 s o
+  left-none h =
+      let e : cyclesOf (drop (2 * i) bytes) ≡ [] = few (drop (2 * i) bytes) (rw (length-drop (2 * i) bytes) (omega arith)) in
+      record { after = rw e at (left .played); put = rw e at (left .put) }

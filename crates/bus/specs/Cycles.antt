@@ -1,12 +1,13 @@
--- A list of bytes as bus cycles, and a run of them.
+-- A list of bytes as bus cycles, and what they answer one after the other.
 -- Assumes nothing.
 use Prim.Native.Nat.{ℕ}
-use mathlib.Core.Path.{_≡_}
 use mathlib.Core.List.{List, [], _∷_}
 use Rattle.instructions.specs.declared.numbers.Numbers.{Numbers}
-use Rattle.registers.specs.declared.Registers.{Registers}
+use Rattle.controller.specs.Cycle.{answer}
 use Rattle.controller.specs.Run.{BusCycle}
-use Rattle.controller.specs.State.{State, state, poweredUp, run}
+use Rattle.controller.specs.State.{State, step}
+use Rattle.controller.specs.Turn.{turnOf}
+use Rattle.controller.specs.declared.turn.Turn.{Turn}
 
 -- two bytes a cycle, kind and value; a last odd byte is no cycle
 unfoldable pub cyclesOf : List ℕ → List BusCycle
@@ -14,10 +15,11 @@ cyclesOf [] = []
 cyclesOf (kind ∷ []) = []
 cyclesOf (kind ∷ value ∷ rest) = (kind, value) ∷ cyclesOf rest
 
--- what a run promises: the registers and the memory after the cycles
-pub record IsRun (k : Numbers) (r : Registers) (before cycles : List ℕ) (after : Registers) (left : List ℕ) : Type 0 where
-  pub tells : state after left ≡ run k (state r before) (cyclesOf cycles)
+-- one cycle's answer, taken apart
+abbrev pub turn : Numbers → State → BusCycle → Turn
+turn k s x = turnOf (s .registers) (answer k (s .registers) (s .memory) (x .0) (x .1))
 
--- the chip after the cycles from power-up with the memory m
-abbrev pub fromPowerUp : Numbers → List ℕ → List ℕ → State
-fromPowerUp k m cycles = run k (poweredUp k m) (cyclesOf cycles)
+-- what the cycles answer, each from the chip that the one before left; a refused one changes nothing
+abbrev pub turns : Numbers → State → List BusCycle → List Turn
+turns k s [] = []
+turns k s (x ∷ xs) = turn k s x ∷ turns k (step k s x) xs

@@ -1,2 +1,4 @@
 pub mod Cycles
-pub mod Column
+pub mod Run
+pub mod Filling
+pub mod Packed

@@ -1,34 +1,119 @@
-// The cycles of a list of bytes, one after the other.
+// The cycles of a list of bytes, one after the other, each with its answer.
 ghost use mathlib.Core.Path.{_≡_};
-ghost use Rattle.instructions.specs.Numbers.{numbers0713};
-ghost use Rattle.controller.specs.State.{state, step};
-ghost use Rattle.bus.specs.Cycles.{IsRun};
-use controller::cycle::Answer;
-use controller::cycle::cycle;
+ghost use Prim.Native.Nat.{_/_, _≤_, _<_};
+ghost use lib.ListN.{length};
+ghost use Rattle.instructions.specs.Numbers.{Sensible, numbers0713};
+ghost use Rattle.controller.specs.State.{state};
+ghost use Rattle.bus.specs.Cycles.{cyclesOf};
+ghost use Rattle.bus.specs.Run.{outputs, runRefusal, IsRun};
+ghost use Rattle.bus.specs.Filling.{TurnPut, Filled};
+use controller::turn::take_turn;
+use instructions::numbers::Numbers;
+use instructions::numbers::ks0713;
+use instructions::refusal::OUT_OF_RANGE;
+use instructions::refusal::SHORT_OUTPUT;
+use instructions::refusal::WRONG_SIZE;
 use registers::Registers;
+use registers::outside_range;
+use state::packed::flag_byte;
 
-// One cycle: the registers after it. A refused one changes nothing.
-fn turn(registers: Registers, memory: &mut [u8], kind: u8, value: u8) -> Registers
-    ensures { λ r. ⌜ state r (now (memory .exit)) ≡ step numbers0713 (state registers (now (memory .entry))) (kind, value) ⌝ }
-{
-    match cycle(registers, memory, kind, value) {
-        Answer::Done(next) => next,
-        Answer::Status(_) => registers,
-        Answer::Read(next, _) => next,
-        Answer::Refused(_) => registers,
-    }
+// The registers after the cycles, or the number of a refusal.
+pub enum Ran {
+    After(Registers),
+    Refused(u8),
 }
 
-// Plays the cycles on the KS0713, two bytes a cycle: kind, value. Answers the registers after them. Refuses nothing: a refused
-// cycle changes nothing and the next is played, and a last odd byte is no cycle.
-pub fn run(registers: Registers, memory: &mut [u8], cycles: &[u8]) -> Registers
-    ensures { λ r. ⌜ IsRun numbers0713 registers (now (memory .entry)) (now (cycles .entry)) r (now (memory .exit)) ⌝ }
+// One cycle, with its answer put into the outputs at i.
+fn turn_at(
+    registers: Registers,
+    memory: &mut [u8],
+    kind: u8,
+    value: u8,
+    i: usize,
+    numbers: &mut [u8],
+    reads: &mut [u8],
+    bytes: &mut [u8],
+) -> Registers
+    requires { ⌜ (i < length (now numbers)) × (i < length (now reads)) × (i < length (now bytes)) ⌝ }
+    ensures { λ r. ⌜ TurnPut numbers0713 (state registers (now (memory .entry))) (kind, value) (outputs (now (numbers .entry)) (now (reads .entry)) (now (bytes .entry))) i
+        (state r (now (memory .exit))) (outputs (now (numbers .exit)) (now (reads .exit)) (now (bytes .exit))) ⌝ }
+{
+    let turn = take_turn(registers, memory, kind, value);
+    numbers[i] = turn.number;
+    reads[i] = flag_byte(turn.read);
+    bytes[i] = turn.byte;
+    turn.registers
+}
+
+// All the cycles, each with its answer put into outputs that have room for them.
+fn play_all(
+    registers: Registers,
+    memory: &mut [u8],
+    cycles: &[u8],
+    numbers: &mut [u8],
+    reads: &mut [u8],
+    bytes: &mut [u8],
+) -> Registers
+    requires { ⌜ (length (now cycles) / 2 ≤ length (now numbers)) × (length (now cycles) / 2 ≤ length (now reads)) × (length (now cycles) / 2 ≤ length (now bytes)) ⌝ }
+    ensures { λ r. ⌜ Filled numbers0713 (state registers (now (memory .entry))) (cyclesOf (now (cycles .entry))) (outputs (now (numbers .entry)) (now (reads .entry)) (now (bytes .entry))) 0
+        (state r (now (memory .exit))) (outputs (now (numbers .exit)) (now (reads .exit)) (now (bytes .exit))) ⌝ }
 {
     let mut after = registers;
     let mut i = 0;
     while i < cycles.len() / 2 {
-        after = turn(after, memory, cycles[2 * i], cycles[2 * i + 1]);
+        after = turn_at(
+            after,
+            memory,
+            cycles[2 * i],
+            cycles[2 * i + 1],
+            i,
+            numbers,
+            reads,
+            bytes,
+        );
         i += 1;
     }
     after
+}
+
+// The number that a run is refused with, 0 for none.
+fn refusal_of(chip: Numbers, registers: Registers, memory: usize, short: bool) -> u8
+    requires { ⌜ Sensible chip ⌝ }
+    ensures { λ n. ⌜ n ≡ runRefusal chip registers memory short ⌝ }
+{
+    let outside = outside_range(chip, registers);
+    if memory != 9 * chip.width {
+        return WRONG_SIZE;
+    }
+    if outside {
+        return OUT_OF_RANGE;
+    }
+    if short {
+        return SHORT_OUTPUT;
+    }
+    0
+}
+
+// Plays the cycles on the KS0713, two bytes a cycle: kind, value; a last odd byte is no cycle. Answers the registers after them, and
+// puts each cycle's answer into the outputs: its number, whether it read a byte (1 or 0), and the byte (0 where it read none). A
+// cycle that is refused changes nothing, and the next is played. Refuses the whole list with 1, 2, 5, tested in this order, and then
+// leaves memory and outputs as they were. Longer outputs keep their rest.
+pub fn run(
+    registers: Registers,
+    memory: &mut [u8],
+    cycles: &[u8],
+    numbers: &mut [u8],
+    reads: &mut [u8],
+    bytes: &mut [u8],
+) -> Ran
+    ensures { λ a. ⌜ IsRun numbers0713 registers (now (memory .entry)) (now (cycles .entry)) (outputs (now (numbers .entry)) (now (reads .entry)) (now (bytes .entry)))
+        a (now (memory .exit)) (outputs (now (numbers .exit)) (now (reads .exit)) (now (bytes .exit))) ⌝ }
+{
+    let count = cycles.len() / 2;
+    let short = (numbers.len() < count) | (reads.len() < count) | (bytes.len() < count);
+    let number = refusal_of(ks0713(), registers, memory.len(), short);
+    if number != 0 {
+        return Ran::Refused(number);
+    }
+    Ran::After(play_all(registers, memory, cycles, numbers, reads, bytes))
 }

@@ -6,3 +6,4 @@ pub mod Unique
 pub mod Numbered
 pub mod Readers
 pub mod ShutOuts
+pub mod Turning

@@ -5,3 +5,4 @@ pub mod Run
 pub mod State
 pub mod ReadBack
 pub mod Chip
+pub mod Turn

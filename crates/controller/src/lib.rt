@@ -2,3 +2,4 @@
 pub mod cycle;
 mod execute;
 mod memory;
+pub mod turn;

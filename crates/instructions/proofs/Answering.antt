@@ -3,12 +3,15 @@
 -- Assumes nothing.
 use Prim.Native.Nat.{ℕ}
 use mathlib.Core.Path.{_≡_, _∙_, refl, ap, sym}
+use mathlib.Core.Logic.{_≢_, _⊎_, inl, inr}
 use mathlib.Core.Bool.{Bool, true, false, cond}
+use mathlib.Core.Option.{none}
 use lib.Dec.{eqb}
-use borrow.Author.Tests.{eqb-true}
+use borrow.Author.Tests.{eqb-true, eqb-false}
 use Rattle.instructions.specs.Told.{Told, given, refused}
 use Rattle.instructions.specs.Answers.{leftBy, Answers, Through, If}
 use Rattle.instructions.proofs.Cases.{split}
+use Rattle.instructions.proofs.Telling.{refused-one, not-given}
 
 module _ {C A B : Type 0} {Is : C → Type 0} {told : C → Told A} {put : A → B} {before : B} where
   pub gives : (a : C) (x : A) → Is a → told a ≡ given x → Through Is told put before (put x) 0
@@ -41,6 +44,14 @@ pub if-both : {P Q P′ Q′ X : Type 0} (t : Bool) → If t P Q → If t P′ Q
 if-both true p p′ f g = f p p′
 if-both false q q′ f g = g q q′
 
+-- what is told is not refused, or gives nothing
+abbrev pub Silent : {A : Type 0} → Told A → Type 0
+Silent t = (t .number ≡ 0) ⊎ (t .value ≡ none)
+
+pub nothing-given : {A : Type 0} (t : Told A) → Silent t → t .number ≢ 0 → t .value ≡ none
+nothing-given t (inl e) h = absurd (h e)
+nothing-given t (inr e) h = e
+
 -- ---- numbers
 
 -- a refusal where a test holds, else what is given
@@ -51,3 +62,15 @@ test-number false n x = refl
 -- what is given where the number is 0, else a refusal with it
 pub number-number : {A : Type 0} (n : ℕ) (x : A) → cond (eqb n 0) (given x) (refused n) .number ≡ n
 number-number n x = split (eqb n 0) (λ t. rw t (sym (eqb-true n 0 t))) (λ t. rw t)
+
+-- a number that is not 0 is a refusal's
+pub refused-number : {A : Type 0} (number n : ℕ) (x : A) → refused n ≡ cond (eqb number 0) (given x) (refused number) → (n ≢ 0) × (eqb number 0 ≡ false)
+refused-number number n x e = split (eqb number 0)
+    (λ t. absurd (not-given {x = x} {n = n} (e ∙ rw t refl)))
+    (λ t. (λ z. eqb-false number 0 t (sym (refused-one (e ∙ rw t refl)) ∙ z), t))
+
+-- where a number is answered nothing is given, so what stands in the out-parameters stood there before
+pub refusal-leaves : {C A B : Type 0} {Is : C → Type 0} {told : C → Told A} {put : A → B} {before after : B} {r : ℕ}
+    → ((a : C) → Silent (told a)) → Through Is told put before after r → r ≢ 0 → after ≡ before
+refusal-leaves {told = told} {put = put} {before = before} silent f h =
+    f .answers .left ∙ ap (leftBy put before) (nothing-given (told (f .answer)) (silent (f .answer)) (λ z. h (f .answers .number ∙ z)))

@@ -2,71 +2,56 @@
 -- Assumes nothing.
 use Prim.Native.Nat.{ℕ, suc, _+_, _*_, _-_, _≤_, _<_}
 use mathlib.Core.Path.{_≡_, refl, sym, ap, subst, _∙_}
+use mathlib.Core.Option.{Option, none, some}
 use mathlib.Core.List.{List, _++_, append-nil}
 use native.Mathlib.Nat.{zero-add}
 use native.Mathlib.Numerals.{add-one}
 use native.Mathlib.Omega.{arith}
 use lib.ListN.{length, take, drop, length-append, length-drop}
 use lib.Seq.{sets, sets-eq, length-take-le}
-use borrow.Author.Tests.{lt-ltb, le-ltb, ne-eqb}
+use borrow.Author.Tests.{lt-ltb, le-ltb}
 use Rattle.instructions.specs.Refusal.{shortOutput}
 use Rattle.instructions.specs.Told.{given}
 use Rattle.instructions.specs.Numbers.{numbers0713}
-use Rattle.instructions.proofs.Sensible.{sensible0713}
 use Rattle.registers.specs.declared.Registers.{Registers}
-use Rattle.controller.specs.Cycle.{Outcome, outcome, answer, memoryAfter, Cycled}
-use Rattle.controller.specs.State.{State, state, poweredUp, step, afterBy}
-use Rattle.controller.specs.declared.cycle.Answer.{Answer}
-use Rattle.controller.specs.declared.cycle.Answer.the-variants as answer
+use Rattle.controller.specs.State.{State, state, poweredUp, step}
+use Rattle.controller.specs.Turn.{turnOf, IsTurn}
+use Rattle.controller.specs.declared.turn.Turn.{Turn}
+use Rattle.controller.proofs.Turning.{turn-steps}
 use Rattle.streams.specs.Length.{updateLength}
 use Rattle.planner.specs.Count.{toldCount, IsLength}
 use Rattle.planner.specs.declared.count.Count.{Count}
 use Rattle.planner.specs.declared.count.Count.the-variants as count
 use Rattle.planner.proofs.Exactly.{right-size}
 use Rattle.jobs.specs.Header.{cycleAt, picture2, IsHeader}
-use Rattle.jobs.specs.Text.{readLine, refusalLine, badLine, endLine, updateLine}
+use Rattle.jobs.specs.Text.{badLine, endLine, updateLine}
 use Rattle.jobs.specs.Memory.{startMemory}
 use Rattle.jobs.specs.Play.{lineOf, answerAt, ending, textFrom, powerUp, textBy, textOf, IsPlayed}
-use Rattle.jobs.specs.Output.{Put, Remains, Turned, Holds}
+use Rattle.jobs.specs.Output.{Put, Remains, turnLine, Turned, Holds}
 use Rattle.jobs.specs.declared.header.Job.{Job}
 use Rattle.jobs.specs.declared.header.Header.{Header}
 use Rattle.jobs.specs.declared.header.Header.the-variants as header
 use Rattle.jobs.specs.declared.play.Played.the-variants as played
-use Rattle.controller.proofs.Numbered.{numbered}
-use Rattle.jobs.proofs.Putting.{sets-append, put-none, put-most, put-then}
+use Rattle.jobs.proofs.Putting.{sets-append, put-most, put-then}
 
--- ---- a turn, by its answer
+-- ---- a turn
 
-module _ (file : List ℕ) (i : ℕ) (r : Registers) (m o : List ℕ) (at : ℕ) {a : Answer} {m′ : List ℕ}
-    (q : Cycled numbers0713 r m (cycleAt file i .0) (cycleAt file i .1) a m′) where
-  turned : (x : Answer) {r′ : Registers} {o′ : List ℕ} {at′ : ℕ} → a ≡ x → r′ ≡ afterBy r (outcome x .registers)
-      → Put o at (lineOf i (outcome x)) o′ at′ 44 → Turned file i (state r m) o at (state r′ m′) o′ at′
-  turned x {o′ = o′} {at′ = at′} e f p =
-      let t : outcome x ≡ answerAt file i (state r m) = ap outcome (sym e) ∙ q .tells in
-      record {
-        after = rw (f, q .leaves) (ap (λ (z : Outcome). state (afterBy r (z .registers)) (memoryAfter numbers0713 r m (cycleAt file i .0) (cycleAt file i .1))) t);
-        line = subst (λ (z : Outcome). Put o at (lineOf i z) o′ at′ 44) t p;
-      }
+-- the line by the answer taken apart is the line by the answer
+line-by : (i : ℕ) (r : Registers) (number : ℕ) (byte : Option ℕ) (after : Option Registers)
+    → turnLine i (turnOf r (record { number = number; byte = byte; registers = after })) ≡ lineOf i (record { number = number; byte = byte; registers = after })
+unfolding lineOf
+line-by i r number (some b) after = refl
+line-by i r number none after = refl
 
-  pub turned-done : {s : Registers} → a ≡ answer.Done s → Turned file i (state r m) o at (state s m′) o at
-  unfolding lineOf
-  turned-done {s} e = turned (answer.Done s) e refl (put-most (omega arith) (put-none o at))
-
-  pub turned-status : {b : ℕ} {o′ : List ℕ} {at′ : ℕ} → a ≡ answer.Status b → Put o at (readLine i b) o′ at′ 26 → Turned file i (state r m) o at (state r m′) o′ at′
-  unfolding lineOf
-  turned-status {b} e p = turned (answer.Status b) e refl (put-most (omega arith) p)
-
-  pub turned-read : {b : ℕ} {s : Registers} {o′ : List ℕ} {at′ : ℕ} → a ≡ answer.Read s b → Put o at (readLine i b) o′ at′ 26 → Turned file i (state r m) o at (state s m′) o′ at′
-  unfolding lineOf
-  turned-read {b} {s} e p = turned (answer.Read s b) e refl (put-most (omega arith) p)
-
-  pub turned-refused : {n : ℕ} {o′ : List ℕ} {at′ : ℕ} → a ≡ answer.Refused n → Put o at (refusalLine i n) o′ at′ 44 → Turned file i (state r m) o at (state r m′) o′ at′
-  unfolding lineOf
-  turned-refused {n} e p =
-      let t : outcome (answer.Refused n) ≡ answerAt file i (state r m) = ap outcome (sym e) ∙ q .tells in
-      let h = numbered numbers0713 sensible0713 r m (cycleAt file i .0) (cycleAt file i .1) in
-      let some : 1 ≤ n = rw (← t) at (h .some-number) refl refl in
-      turned (answer.Refused n) e refl (rw (ne-eqb n 0 (λ z. omega arith)) p)
+pub turned : (file : List ℕ) (i : ℕ) {r : Registers} {m m′ o o′ : List ℕ} {at at′ : ℕ} {t : Turn}
+    → IsTurn numbers0713 r m (cycleAt file i .0) (cycleAt file i .1) t m′ → Put o at (turnLine i t) o′ at′ 44
+    → Turned file i (state r m) o at (state (t .registers) m′) o′ at′
+turned file i {r} {m} {o = o} {o′ = o′} {at = at} {at′ = at′} q p =
+    let a = answerAt file i (state r m) in
+    record {
+      after = turn-steps q;
+      line = subst (λ (l : List ℕ). Put o at l o′ at′ 44) (ap (turnLine i) (q .tells) ∙ line-by i r (a .number) (a .byte) (a .registers)) p;
+    }
 
 -- ---- what remains to be put
 

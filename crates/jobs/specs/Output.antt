@@ -2,14 +2,17 @@
 -- Assumes nothing.
 use Prim.Native.Nat.{ℕ, _+_, _*_, _≤_}
 use mathlib.Core.Path.{_≡_}
-use mathlib.Core.List.{List, _++_}
+use mathlib.Core.Bool.{cond}
+use mathlib.Core.List.{List, [], _++_}
 use lib.ListN.{length}
+use lib.Dec.{eqb}
 use lib.Seq.{sets}
 use Rattle.instructions.specs.Numbers.{numbers0713}
 use Rattle.registers.specs.declared.Registers.{Registers}
 use Rattle.controller.specs.State.{State, step}
+use Rattle.controller.specs.declared.turn.Turn.{Turn}
 use Rattle.jobs.specs.Header.{cycleAt}
-use Rattle.jobs.specs.Text.{field, newline, flag, modifyFlag}
+use Rattle.jobs.specs.Text.{field, newline, flag, modifyFlag, readLine, refusalLine}
 use Rattle.jobs.specs.Play.{lineOf, answerAt}
 use Rattle.jobs.specs.declared.header.Job.{Job}
 
@@ -29,6 +32,10 @@ pub record Holds (file : List ℕ) (j : Job) : Type 0 where
   pub few : j .cycles ≤ 16000
   pub two : j .pictures ≤ 2
   pub whole : length file ≡ 8 + 2 * j .cycles + 1188 * j .pictures
+
+-- the line of cycle i by its answer taken apart, as the code asks: a refusal's, a read's, or none
+abbrev pub turnLine : ℕ → Turn → List ℕ
+turnLine i t = cond (eqb (t .number) 0) (cond (t .read) (readLine i (t .byte)) []) (refusalLine i (t .number))
 
 -- a turn: cycle i of a file from the state s, with the output o at `at`
 pub record Turned (file : List ℕ) (i : ℕ) (s : State) (o : List ℕ) (at : ℕ) (s′ : State) (o′ : List ℕ) (at′ : ℕ) : Type 0 where

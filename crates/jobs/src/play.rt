@@ -8,8 +8,8 @@ use crate::text::put_end;
 use crate::text::put_read;
 use crate::text::put_refusal;
 use crate::text::put_update;
-use controller::cycle::Answer;
-use controller::cycle::cycle;
+use controller::turn::Turn;
+use controller::turn::take_turn;
 use instructions::refusal::SHORT_OUTPUT;
 use planner::count::Count;
 use planner::length::update_length;
@@ -23,7 +23,7 @@ ghost use Rattle.controller.specs.State.{state, poweredUp};
 ghost use Rattle.streams.specs.Length.{updateLength};
 ghost use Rattle.jobs.specs.Header.{picture2};
 ghost use Rattle.jobs.specs.Play.{ending, textFrom, powerUp, textOf, IsPlayed};
-ghost use Rattle.jobs.specs.Output.{Put, Remains, Turned, Holds};
+ghost use Rattle.jobs.specs.Output.{Put, Remains, Turned, Holds, turnLine};
 
 // The length of the text, or the number of a refusal.
 pub enum Played {
@@ -37,8 +37,22 @@ struct After {
     at: usize,
 }
 
-// One cycle, with its line where it has one.
-fn turn(
+// A cycle's line, where it has one: a refusal's or a read's.
+fn put_line(out: &mut [u8], at: usize, i: usize, turn: Turn) -> usize
+    requires { ⌜ at < 1000000 ⌝ }
+    ensures { λ r. ⌜ Put (now (out .entry)) at (turnLine i turn) (now (out .exit)) r 44 ⌝ }
+{
+    if turn.number != 0 {
+        return put_refusal(out, at, i, turn.number);
+    }
+    if turn.read {
+        return put_read(out, at, i, turn.byte);
+    }
+    at
+}
+
+// One cycle, with its line.
+fn play_cycle(
     file: &[u8],
     i: usize,
     registers: Registers,
@@ -50,23 +64,11 @@ fn turn(
     ensures { λ a. ⌜ Turned (now (file .entry)) i (state registers (now (memory .entry))) (now (out .entry)) at
         (state (a .registers) (now (memory .exit))) (now (out .exit)) (a .at) ⌝ }
 {
-    match cycle(registers, memory, file[8 + 2 * i], file[9 + 2 * i]) {
-        Answer::Done(next) => After {
-            registers: next,
-            at,
-        },
-        Answer::Status(byte) => After {
-            registers,
-            at: put_read(out, at, i, byte),
-        },
-        Answer::Read(next, byte) => After {
-            registers: next,
-            at: put_read(out, at, i, byte),
-        },
-        Answer::Refused(number) => After {
-            registers,
-            at: put_refusal(out, at, i, number),
-        },
+    let turn = take_turn(registers, memory, file[8 + 2 * i], file[9 + 2 * i]);
+    let next = turn.registers;
+    After {
+        registers: next,
+        at: put_line(out, at, i, turn),
     }
 }
 
@@ -83,7 +85,7 @@ fn play_cycles(file: &[u8], job: Job, memory: &mut [u8], out: &mut [u8]) -> Afte
     let mut i = 0;
     while i < job.cycles {
         let registers = after.registers;
-        after = turn(file, i, registers, memory, out, after.at);
+        after = play_cycle(file, i, registers, memory, out, after.at);
         i += 1;
     }
     after

@@ -6,6 +6,7 @@ use mathlib.Core.Bool.{Bool, true, false, _||_}
 use native.Mathlib.Omega.{arith}
 use lib.Dec.{T, ltb, leb}
 use borrow.Author.Tests.{le-ltb, lt-leb, ltb-false, leb-false}
+use Rattle.instructions.specs.Numbers.{Sensible}
 use Rattle.instructions.specs.declared.numbers.Numbers.{Numbers}
 use Rattle.registers.specs.Registers.{outside, savedOf, Ranged, PoweredUp}
 use Rattle.registers.specs.declared.Registers.{Registers}
@@ -55,3 +56,7 @@ ranges k r e =
 -- two admitted answers of power_up are equal
 pub powered-one : {k : Numbers} {r s : Registers} → PoweredUp k r → PoweredUp k s → r ≡ s
 powered-one f g = f .tells ∙ sym (g .tells)
+
+-- power-up's registers are in range
+pub powered-ranged : (k : Numbers) → Sensible k → (r : Registers) → PoweredUp k r → Ranged k r
+powered-ranged k g r p = rw (p .tells) (omega (arith, g .wide, g .first))

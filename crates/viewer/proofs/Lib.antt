@@ -2,3 +2,4 @@ pub mod Cycles
 pub mod Showing
 pub mod Sending
 pub mod Words
+pub mod Running

@@ -8,6 +8,7 @@ use Rattle.registers.specs.Registers.{Ranged}
 use Rattle.registers.specs.declared.Registers.{Registers}
 use Rattle.controller.specs.Run.{BusCycle}
 use Rattle.controller.specs.State.{state, poweredUp, run}
+use Rattle.bus.specs.Cycles.{cyclesOf}
 use Rattle.jobs.specs.Header.{cycleAt}
 use Rattle.jobs.specs.declared.header.Job.{Job}
 
@@ -16,7 +17,12 @@ unfoldable pub cyclesFrom : List ℕ → ℕ → ℕ → List BusCycle
 cyclesFrom file i zero = []
 cyclesFrom file i (suc n) = cycleAt file i ∷ cyclesFrom file (suc i) n
 
--- the registers and the memory after a job's cycles from power-up with the memory m; the registers are in their ranges
+-- the registers and the memory after the cycles of a list from power-up with the memory m; the registers are in their ranges
+pub record FromPowerUp (cycles m : List ℕ) (r : Registers) (left : List ℕ) : Type 0 where
+  pub after : state r left ≡ run numbers0713 (poweredUp numbers0713 m) (cyclesOf cycles)
+  pub ranged : Ranged numbers0713 r
+
+-- the same after a job's cycles
 pub record Played (file : List ℕ) (j : Job) (m : List ℕ) (r : Registers) (left : List ℕ) : Type 0 where
   pub after : state r left ≡ run numbers0713 (poweredUp numbers0713 m) (cyclesFrom file 0 (j .cycles))
   pub ranged : Ranged numbers0713 r

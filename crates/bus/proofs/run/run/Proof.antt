@@ -1,51 +1,42 @@
--- `bus::run::run` meets its contract: before each cycle, the cycles from it on lead to the state after them all.
+-- `bus::run::run` meets its contract: refused with its number, or played into outputs that have room.
 -- Assumes nothing.
-use Prim.Native.Nat.{_*_, _/_, _-_}
-use mathlib.Core.Path.{_≡_, refl, sym, _∙_}
+use mathlib.Core.Path.{sym, subst}
 use borrow.Author.Needs.{needs}
-use lib.ListN.{length, drop}
-use Rattle.instructions.specs.Numbers.{numbers0713}
-use Rattle.controller.specs.State.{state, run}
-use Rattle.bus.specs.Cycles.{cyclesOf}
-use Rattle.bus.proofs.Playing.{run-next, run-end}
+use denote.Ref.{now}
+use Rattle.instructions.specs.Numbers.{Sensible, numbers0713}
+use Rattle.instructions.proofs.Sensible.{sensible0713}
+use Rattle.bus.specs.Run.{outputs}
+use Rattle.bus.proofs.Running.{has-room, run-refused, run-given}
 use Rattle.bus.proofs.run.run.Statement.{statement}
 use Rattle.bus.proofs.run.run.Tie as tie
 
-abbrev Inv-loop : tie.InvT-loop
-Inv-loop memory₀ cycles after₀ i₀ memory after i =
-    (length memory ≡ length memory₀)
-    × (run numbers0713 (state after memory) (cyclesOf (drop (2 * i) cycles)) ≡ run numbers0713 (state after₀ memory₀) (cyclesOf cycles))
+refused : tie.Need-returns
+refused c =
+    let a = c .before .before .before .before .before .before .before .before .args in
+    run-refused numbers0713 (a .registers) (now (a .memory)) (now (a .cycles)) (outputs (now (a .numbers)) (now (a .reads)) (now (a .bytes))) (c .before .before .ks0713 .ensures) (c .before .refusal-of .ensures) (c .if1 .taken)
 
-abbrev μ-loop : tie.MeasureT-loop
-μ-loop memory₀ cycles after₀ i₀ memory after i = length cycles / 2 - i
+room : tie.Need-play-all-requires
+room c κs =
+    let s = c .before .before .before .before in
+    let a = c .before .before .before .before .before .before .before .before .before .before .before .before .args in
+    has-room numbers0713 (a .registers) (now (a .memory)) (now (a .cycles)) (outputs (now (a .numbers)) (now (a .reads)) (now (a .bytes))) (s .before .before .ks0713 .ensures) (s .before .refusal-of .ensures) (s .if1 .left)
 
-loop-again : tie.Need-loop-again Inv-loop μ-loop
-loop-again c =
-    let at-turn = c .before .before in
-    let at-test = at-turn .before .before .before .before in
-    let inv = at-test .before .loop .inv in (
-      at-turn .turn .kept .1 .0 ∙ inv .0,
-      rw (at-turn .turn .ensures) (sym (run-next _ _ _ _ (at-test .loop-test .taken)) ∙ inv .1),
-    )
-
-returns : tie.Need-returns Inv-loop μ-loop
-returns c = record { tells = sym (run-end _ _ _ _ (c .loop-test .left)) ∙ c .before .loop .inv .1 }
+played : tie.Need-returns-2
+played c =
+    let s = c .before .before .before .before .before .before .before .before .before .before .before .before .before in
+    let a = c .before .before .before .before .before .before .before .before .before .before .before .before .before .before .before .before .before .before .before .before .before .args in
+    run-given numbers0713 (a .registers) (now (a .memory)) (now (a .cycles)) (outputs (now (a .numbers)) (now (a .reads)) (now (a .bytes))) (s .before .before .ks0713 .ensures) (s .before .refusal-of .ensures) (s .if1 .left) (c .before .before .before .before .before .before .before .before .play-all .ensures)
 
 pub run-spec : {M : Type 1} → statement M
 run-spec =
     tie.close
     (tie.spec
-    Inv-loop
-    μ-loop
-    (λ c. (refl, refl))
-    (λ c. search needs)
-    (λ c. search needs)
-    (λ c. search needs)
-    (λ c. search needs)
-    (λ c. search needs)
     (λ c κs. search needs)
+    (λ c κs. subst Sensible (sym (c .ks0713 .ensures)) sensible0713)
+    refused
+    room
     (λ c. search needs)
     (λ c. search needs)
-    loop-again
-    (λ c. c .before .loop .inv .0)
-    returns)
+    (λ c. search needs)
+    (λ c. search needs)
+    played)

@@ -34,10 +34,10 @@ loop-again c =
     let at-test = at-turn .before .before .before .before in
     let inv = at-test .before .before .loop .inv in (
       omega arith,
-      omega (arith, at-turn .turn .ensures .line .near, inv .1),
-      remains-turn _ _ _ _ (at-test .if1 .taken) (inv .2) (at-turn .turn .ensures),
-      at-turn .turn .kept .1 .1 .1 .0 ∙ inv .3,
-      at-turn .turn .kept .1 .1 .1 .1 .0 ∙ inv .4,
+      omega (arith, at-turn .play-cycle .ensures .line .near, inv .1),
+      remains-turn _ _ _ _ (at-test .if1 .taken) (inv .2) (at-turn .play-cycle .ensures),
+      at-turn .play-cycle .kept .1 .1 .1 .0 ∙ inv .3,
+      at-turn .play-cycle .kept .1 .1 .1 .1 .0 ∙ inv .4,
     )
 
 returns : tie.Need-returns Inv-loop μ-loop

@@ -6,23 +6,20 @@ use native.Mathlib.Omega.{arith}
 use borrow.Author.Needs.{needs}
 use denote.Ref.{now}
 use Rattle.instructions.specs.Numbers.{numbers0713}
-use Rattle.instructions.proofs.Sensible.{sensible0713}
 use Rattle.controller.specs.State.{poweredUp, run}
-use Rattle.bus.proofs.Playing.{from-power-up, in-range}
 use Rattle.viewer.proofs.Cycles.{same-cycles}
 use Rattle.viewer.proofs.play.after.Statement.{statement}
 use Rattle.viewer.proofs.play.after.Tie as tie
 
 returns : tie.Need-returns
 returns c =
-    let at-start = c .before .before .before .before .before in
-    let n = at-start .before .before .before .before .args .job .cycles in
+    let held = c .before .before .before .before .before .before .before .before in
+    let n = held .args .job .cycles in
     let e : 8 + 2 * n - 8 ≡ 2 * n = omega arith in
-    let q = rw e at (c .before .before .run .ensures) in
-    let held = at-start .before .before .before .before in
+    let q = rw e at (c .before .before .from-power-up .ensures) in
     record {
-      after = from-power-up (at-start .power-up .ensures) q ∙ ap (run numbers0713 (poweredUp numbers0713 _)) (same-cycles (now (held .args .file)) 0 n (omega (arith, held .pre .whole)));
-      ranged = in-range numbers0713 sensible0713 (at-start .power-up .ensures) q;
+      after = q .after ∙ ap (run numbers0713 (poweredUp numbers0713 _)) (same-cycles (now (held .args .file)) 0 n (omega (arith, held .pre .0 .whole)));
+      ranged = q .ranged;
     }
 
 pub after-spec : {M : Type 1} → statement M
@@ -31,7 +28,6 @@ after-spec =
     (tie.spec
     (λ c. search needs)
     (λ c. search needs)
-    (λ c κs. search needs)
     (λ c. search needs)
     (λ c. search needs)
     (λ c. search needs)

@@ -1,0 +1,73 @@
+-- A list of cycles, played: the chip after them, and each one's answer.
+-- Assumes nothing.
+use Prim.Native.Nat.{ℕ, _*_}
+use mathlib.Core.Path.{_≡_}
+use mathlib.Core.Bool.{Bool, cond, not, _||_}
+use mathlib.Core.List.{List, map}
+use lib.ListN.{length}
+use lib.Dec.{ltb, eqb}
+use Rattle.instructions.specs.Refusal.{wrongSize, outOfRange, shortOutput}
+use Rattle.instructions.specs.Told.{Told, given, refused}
+use Rattle.instructions.specs.Over.{over}
+use Rattle.instructions.specs.declared.numbers.Numbers.{Numbers}
+use Rattle.registers.specs.Registers.{outside}
+use Rattle.registers.specs.declared.Registers.{Registers}
+use Rattle.state.specs.Packed.{flagByte}
+use Rattle.controller.specs.State.{State, state, run}
+use Rattle.controller.specs.declared.turn.Turn.{Turn}
+use Rattle.bus.specs.Cycles.{cyclesOf, turns}
+use Rattle.bus.specs.declared.run.Ran.{Ran}
+use Rattle.bus.specs.declared.run.Ran.the-variants.{After, Refused}
+
+-- ---- the three outputs, an entry a cycle
+
+pub record Outputs : Type 0 where
+  pub numbers : List ℕ
+  pub reads : List ℕ
+  pub bytes : List ℕ
+
+abbrev pub outputs : List ℕ → List ℕ → List ℕ → Outputs
+outputs numbers reads bytes = record { numbers = numbers; reads = reads; bytes = bytes }
+
+-- the number that a cycle is refused with, 0 for none; 1 where it read a byte, else 0; and the byte, 0 where it read none
+abbrev pub numberOf : Turn → ℕ
+numberOf t = t .number
+
+abbrev pub readOf : Turn → ℕ
+readOf t = flagByte (t .read)
+
+abbrev pub byteOf : Turn → ℕ
+byteOf t = t .byte
+
+-- the answers in front of the outputs: longer ones keep their rest
+abbrev pub recorded : List Turn → Outputs → Outputs
+recorded ts o = outputs (over (map numberOf ts) (o .numbers)) (over (map readOf ts) (o .reads)) (over (map byteOf ts) (o .bytes))
+
+-- an output is shorter than the list of cycles
+unfoldable pub tooShort : ℕ → Outputs → Bool
+tooShort n o = ltb (length (o .numbers)) n || ltb (length (o .reads)) n || ltb (length (o .bytes)) n
+
+-- ---- the whole list
+
+-- the number that a run is refused with, 0 for none: 1 for the memory, 2 for a register, 5 for an output, in this order
+unfoldable pub runRefusal : Numbers → Registers → ℕ → Bool → ℕ
+runRefusal k r memory short =
+    cond (not (eqb memory (9 * k .width))) wrongSize (cond (outside k r) outOfRange (cond short shortOutput 0))
+
+abbrev pub refusalOf : Numbers → Registers → List ℕ → List ℕ → Outputs → ℕ
+refusalOf k r memory cycles o = runRefusal k r (length memory) (tooShort (length (cyclesOf cycles)) o)
+
+-- an answer as the paper tells it
+abbrev pub toldRan : Ran → Told Registers
+toldRan (After r) = given r
+toldRan (Refused n) = refused n
+
+-- what is played: the cycles of the list from the registers r and a memory
+abbrev pub ranFrom : Numbers → Registers → List ℕ → List ℕ → State
+ranFrom k r memory cycles = run k (state r memory) (cyclesOf cycles)
+
+-- what a run promises: the registers and the memory after the cycles and each one's answer; a refusal leaves memory and outputs
+pub record IsRun (k : Numbers) (r : Registers) (before cycles : List ℕ) (o : Outputs) (a : Ran) (left : List ℕ) (o′ : Outputs) : Type 0 where
+  pub tells : toldRan a ≡ cond (eqb (refusalOf k r before cycles o) 0) (given (ranFrom k r before cycles .registers)) (refused (refusalOf k r before cycles o))
+  pub leaves : left ≡ cond (eqb (refusalOf k r before cycles o) 0) (ranFrom k r before cycles .memory) before
+  pub answers : o′ ≡ cond (eqb (refusalOf k r before cycles o) 0) (recorded (turns k (state r before) (cyclesOf cycles)) o) o

@@ -1,0 +1,22 @@
+-- A turn, by the cycle's answer; and what it leaves is the chip after the cycle.
+-- Assumes nothing.
+use Prim.Native.Nat.{ℕ}
+use mathlib.Core.Path.{_≡_, _∙_, ap, sym}
+use mathlib.Core.List.{List}
+use Rattle.instructions.specs.declared.numbers.Numbers.{Numbers}
+use Rattle.registers.specs.declared.Registers.{Registers}
+use Rattle.controller.specs.Cycle.{outcome, answer, memoryAfter, Cycled}
+use Rattle.controller.specs.State.{state, step}
+use Rattle.controller.specs.Turn.{turnOf, IsTurn}
+use Rattle.controller.specs.declared.cycle.Answer.{Answer}
+use Rattle.controller.specs.declared.turn.Turn.{Turn}
+
+module _ {k : Numbers} {r : Registers} {m : List ℕ} {kind value : ℕ} {left : List ℕ} where
+  -- whatever a cycle answers, its turn is that answer taken apart
+  pub turn-told : {a : Answer} → Cycled k r m kind value a left → (b : Answer) → a ≡ b → IsTurn k r m kind value (turnOf r (outcome b)) left
+  turn-told q b e = record { tells = ap (turnOf r) (ap outcome (sym e) ∙ q .tells); leaves = q .leaves }
+
+  pub turn-steps : {t : Turn} → IsTurn k r m kind value t left → state (t .registers) left ≡ step k (state r m) (kind, value)
+  turn-steps {t} q =
+      ap (state (t .registers)) (q .leaves)
+      ∙ ap (λ (x : Turn). state (x .registers) (memoryAfter k r m kind value)) (q .tells)

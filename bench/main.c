@@ -58,24 +58,6 @@ static const struct { const char *name; uint8_t kind, value; } cycles[] = {
     { "data write", 1, 0x5a }, { "status read", 2, 0 }, { "data read", 3, 0 }, { "pin low", 4, 0 }, { "pin high", 5, 0 } };
 enum { KINDS = sizeof cycles / sizeof cycles[0] };
 
-/* one cycle of a list: what LAPS of them cost more than none, divided by LAPS */
-static void by_value(void)
-{
-    head("A cycle by value");
-    for (int c = 0; c < KINDS; c++) {
-        for (int lap = 0; lap < LAPS; lap++) desk.cycles[2 * lap] = cycles[c].kind, desk.cycles[2 * lap + 1] = cycles[c].value;
-        desk.laps = 0;
-        struct cost none = cost_of(LIST);
-        desk.laps = LAPS;
-        struct cost all = cost_of(LIST);
-        for (int side = 0; side < SIDES; side++) {
-            all.steps[side] = (all.steps[side] - none.steps[side]) / LAPS;
-            all.times[side] = (all.times[side] - none.times[side]) / LAPS;
-        }
-        row("cycle", cycles[c].name, all);
-    }
-}
-
 /* page 3, display on, and the column counter locked, so that each call of a series is the same; the model has the same bytes in the
    same order */
 static void set_chip(void)
@@ -85,6 +67,28 @@ static void set_chip(void)
     desk.state[PANEL_AT_COLUMN] = 200;
     desk.state[PANEL_AT_ON] = 1;
     memcpy(&desk.registers, desk.state, sizeof desk.registers);
+}
+
+/* a list of cycles: one of them is what LAPS cost more than none, divided by LAPS */
+static void lists(void)
+{
+    struct cost none;
+    head("A list of cycles, with each one's answer");
+    set_chip();
+    desk.laps = 0;
+    none = cost_of(LIST);
+    row("an empty list", "the state alone", none);
+    for (int c = 0; c < KINDS; c++) {
+        for (int lap = 0; lap < LAPS; lap++) desk.cycles[2 * lap] = cycles[c].kind, desk.cycles[2 * lap + 1] = cycles[c].value;
+        set_chip();
+        desk.laps = LAPS;
+        struct cost all = cost_of(LIST);
+        for (int side = 0; side < SIDES; side++) {
+            all.steps[side] = (all.steps[side] - none.steps[side]) / LAPS;
+            all.times[side] = (all.times[side] - none.times[side]) / LAPS;
+        }
+        row("a cycle", cycles[c].name, all);
+    }
 }
 
 static void through_state(void)
@@ -146,7 +150,7 @@ int main(void)
 {
     printf("\n## Instructions and time of each call\n");
     pictures();
-    by_value();
+    lists();
     through_state();
     growth();
     ways();

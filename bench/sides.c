@@ -31,16 +31,19 @@ __typeof__(model_redraw) fast_redraw;
 
 #define CALLS_OF(side) { side##_update, side##_length, side##_first, side##_redraw, side##_cycle, side##_list, side##_frame, side##_read, side##_write, side##_power, side##_v0 }
 
-/* a list of cycles from power-up: the library's registers go by value from one cycle to the next */
-static void ours_list(void) { desk.byte = bus_column(desk.memory, N, desk.cycles, 2 * desk.laps); }
+/* a list of cycles with each one's answer: the library unpacks its state once, the model's struct is at hand */
+static void ours_list(void)
+{
+    bus_run(desk.state, desk.memory, N, desk.cycles, 2 * desk.laps, desk.numbers, LAPS, desk.reads, LAPS, desk.bytes, LAPS);
+}
 
 #define LIST_OF(side, prefix) \
     static void side##_list(void) \
     { \
-        prefix##_power_up(&desk.registers); \
-        for (size_t i = 0; i < desk.laps; i++) \
-            prefix##_cycle(&desk.registers, desk.memory, N, desk.cycles[2 * i], desk.cycles[2 * i + 1], &desk.read, &desk.byte); \
-        desk.byte = desk.registers.column; \
+        for (size_t i = 0; i < desk.laps; i++) { \
+            desk.reads[i] = desk.bytes[i] = 0; \
+            desk.numbers[i] = prefix##_cycle(&desk.registers, desk.memory, N, desk.cycles[2 * i], desk.cycles[2 * i + 1], &desk.reads[i], &desk.bytes[i]); \
+        } \
     }
 
 STREAMS(ours, panel)

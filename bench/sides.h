@@ -16,7 +16,8 @@ struct desk {
     struct model_registers registers;    /* the model's */
     uint8_t kind, value;                 /* one cycle */
     uint8_t cycles[2 * LAPS];            /* or a list of them, of which `laps` are played */
-    size_t laps, room;                   /* and the room in both outputs */
+    uint8_t numbers[LAPS], reads[LAPS], bytes[LAPS]; /* and their answers */
+    size_t laps, room;                   /* and the room in a stream's outputs */
     uint8_t number, field, byte, read, found, power;
     size_t count, page, column;
     uint32_t numerator;

@@ -1,5 +1,6 @@
-/* A list of bus cycles on the KS0713, played from power-up with the registers by value: for simulation and for bench/run. What the
- * head of panel.h says of its calls, and what it leaves to the caller, holds here too. The archive is libbus.a. */
+/* A list of bus cycles on the KS0713, played on a packed state: the state is unpacked once, before the first cycle, and packed once,
+ * after the last. What the head of panel.h says of its calls, and what it leaves to the caller, holds here too. The archive is
+ * libbus.a; states are those of panel.h, and panel_power_up makes one. */
 #ifndef BUS_H
 #define BUS_H
 
@@ -10,10 +11,16 @@
 extern "C" {
 #endif
 
-/* Plays the cycles from power-up: two bytes each, the kind (PANEL_INSTRUCTION and so on) and the value; a last odd byte is no cycle.
- * A cycle that is refused changes nothing, and the next is played; where the memory is not 1,188 bytes all are. The memory becomes
- * what it is after them, and the answer is the column counter. Refuses nothing. */
-uint8_t bus_column(uint8_t *memory, size_t memory_length, const uint8_t *cycles, size_t cycles_length);
+/* Plays the cycles: two bytes each, the kind (PANEL_INSTRUCTION and so on) and the value; a last odd byte is no cycle. The state of 32
+ * bytes and the memory become what they are after them. A cycle that is refused changes nothing, and the next is played.
+ *
+ * Each cycle has an entry in the three outputs: in numbers the number that it is refused with, 0 for none, as panel_cycle answers it;
+ * in reads 1 where it read a byte, else 0; in bytes the byte that it read, 0 where it read none. Entries past the list stay.
+ *
+ * Refuses the whole list, and plays none of it, with 1 (memory not 1,188 bytes), 2 (state), 5 (an output with fewer entries than there
+ * are cycles). */
+uint8_t bus_run(uint8_t state[32], uint8_t *memory, size_t memory_length, const uint8_t *cycles, size_t cycles_length,
+                uint8_t *numbers, size_t numbers_length, uint8_t *reads, size_t reads_length, uint8_t *bytes, size_t bytes_length);
 
 #ifdef __cplusplus
 }

@@ -163,21 +163,47 @@ static void some_cycle(uint8_t *kind, uint8_t *value)
     if (*kind >= 2 && below(20)) *value = 0;
 }
 
-/* a list of cycles from power-up, at times with an odd byte behind it */
+/* the model of a list: each cycle by itself, its answer at its entry; the list is refused as a whole first */
+static uint8_t model_list(struct model_registers *r, int used, uint8_t *m, size_t length, const uint8_t *list, size_t n,
+                          uint8_t *out[3], const size_t room[3])
+{
+    uint8_t flag = 0, byte = 0;
+    struct model_registers asked = *r;
+    if (length != N) return 1;
+    if (used || model_cycle(&asked, m, length, 2, 0, &flag, &byte) == 2) return 2; /* a status read meets 1 and 2, and changes nothing */
+    for (int i = 0; i < 3; i++) if (room[i] < n) return 5;
+    for (size_t i = 0; i < n; i++) {
+        flag = byte = 0;
+        out[0][i] = model_cycle(r, m, length, list[2 * i], list[2 * i + 1], &flag, &byte);
+        out[1][i] = flag, out[2][i] = byte;
+    }
+    return 0;
+}
+
+/* a list of cycles from any state, at times with an odd byte behind it, and with too little room */
 static void lists(void)
 {
-    enum { MOST = 60 };
-    static uint8_t m1[ROOM], m2[ROOM], list[2 * MOST + 1];
+    enum { MOST = 60, WIDE = MOST + 4 };
+    static uint8_t m1[ROOM], m2[ROOM], list[2 * MOST + 1], ours[3][WIDE], theirs[3][WIDE];
+    uint8_t s[PANEL_STATE], *out[3] = { theirs[0], theirs[1], theirs[2] };
     struct model_registers r;
-    uint8_t g = 7, b = 5;
-    size_t n = below(MOST + 1), odd = below(2), length = below(20) ? N : below(ROOM);
+    size_t n = below(MOST + 1), odd = below(2), length = some_length(), room[3];
+    if (below(4)) good_state(s); else any_state(s);
+    to_model(&r, s);
     for (int i = 0; i < ROOM; i++) m1[i] = m2[i] = rnd();
     for (size_t i = 0; i < n; i++) some_cycle(&list[2 * i], &list[2 * i + 1]);
     list[2 * n] = rnd();
-    model_power_up(&r);
-    for (size_t i = 0; i < n; i++) model_cycle(&r, m2, length, list[2 * i], list[2 * i + 1], &g, &b);
-    uint8_t column = bus_column(m1, length, list, 2 * n + odd);
-    same("bus_column", column == r.column && !memcmp(m1, m2, ROOM));
+    for (int i = 0; i < 3; i++) {
+        room[i] = below(20) ? n + below(4) : n ? n - 1 : 0;
+        for (int k = 0; k < WIDE; k++) ours[i][k] = theirs[i][k] = rnd();
+    }
+    uint8_t before[PANEL_STATE];
+    memcpy(before, s, PANEL_STATE);
+    uint8_t n1 = bus_run(s, m1, length, list, 2 * n + odd, ours[0], room[0], ours[1], room[1], ours[2], room[2]);
+    uint8_t n2 = model_list(&r, spare(before), m2, length, list, n, out, room);
+    numbers[n2]++;
+    int state = n2 ? !memcmp(before, s, PANEL_STATE) : !memcmp(s, &r, sizeof r) && !spare(s);
+    same("bus_run", n1 == n2 && state && !memcmp(m1, m2, ROOM) && !memcmp(ours, theirs, sizeof ours));
 }
 
 /* one cycle, from the state that the last one left or from another, in range or not */

@@ -5,17 +5,16 @@ use mathlib.Core.Path.{_≡_, refl, sym, ap, _∙_}
 use mathlib.Core.List.{List, [], _∷_}
 use native.Mathlib.Numerals.{add-one}
 use native.Mathlib.Omega.{arith}
-use lib.ListN.{length, getD, set, drop, length-drop}
+use lib.ListN.{length, getD, drop, length-drop}
 use lib.Seq.{drop-cons}
 use Rattle.instructions.specs.declared.numbers.Numbers.{Numbers}
 use Rattle.registers.specs.declared.Registers.{Registers}
 use Rattle.controller.specs.Run.{BusCycle}
 use Rattle.controller.specs.State.{State, state, step, run}
-use Rattle.controller.specs.Turn.{IsTurn}
-use Rattle.controller.specs.declared.turn.Turn.{Turn}
+use Rattle.controller.specs.Turn.{Turn, IsTurn}
 use Rattle.controller.proofs.Turning.{turn-steps}
 use Rattle.bus.specs.Cycles.{cyclesOf, turns}
-use Rattle.bus.specs.Run.{Outputs, outputs, readOf}
+use Rattle.bus.specs.Run.{Outputs}
 use Rattle.bus.specs.Filling.{putAt, putFrom, TurnPut, Filled}
 
 -- ---- bytes as cycles
@@ -58,10 +57,9 @@ cycles-at bytes i h =
 -- ---- a turn
 
 -- what a cycle answers goes into the outputs at entry i
-pub turn-put : {k : Numbers} {r : Registers} {m left : List ℕ} {kind value : ℕ} {t : Turn} (o : Outputs) (i read : ℕ)
-    → IsTurn k r m kind value t left → read ≡ readOf t
-    → TurnPut k (state r m) (kind, value) o i (state (t .registers) left) (outputs (set (o .numbers) i (t .number)) (set (o .reads) i read) (set (o .bytes) i (t .byte)))
-turn-put o i read q e = record { after = turn-steps q; put = rw e (ap (putAt o i) (q .tells)) }
+pub turn-put : {k : Numbers} {r : Registers} {m left : List ℕ} {kind value : ℕ} {t : Turn} (o : Outputs) (i : ℕ) → IsTurn k r m kind value t left
+    → TurnPut k (state r m) (kind, value) o i (state (t .registers) left) (putAt o i t)
+turn-put o i q = record { after = turn-steps q; put = ap (putAt o i) (q .tells) }
 
 -- ---- the whole list
 

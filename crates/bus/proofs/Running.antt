@@ -19,7 +19,7 @@ use Rattle.instructions.proofs.Exactly.{past}
 use Rattle.registers.specs.Registers.{outside}
 use Rattle.registers.specs.declared.Registers.{Registers}
 use Rattle.controller.specs.State.{State, state}
-use Rattle.controller.specs.declared.turn.Turn.{Turn}
+use Rattle.controller.specs.Turn.{Turn}
 use Rattle.bus.specs.Cycles.{cyclesOf, turns}
 use Rattle.bus.specs.Run.{Outputs, numberOf, readOf, byteOf, recorded, tooShort, runRefusal, refusalOf, IsRun}
 use Rattle.bus.specs.Filling.{putFrom, Filled}

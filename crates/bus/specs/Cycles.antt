@@ -6,8 +6,7 @@ use Rattle.instructions.specs.declared.numbers.Numbers.{Numbers}
 use Rattle.controller.specs.Cycle.{answer}
 use Rattle.controller.specs.Run.{BusCycle}
 use Rattle.controller.specs.State.{State, step}
-use Rattle.controller.specs.Turn.{turnOf}
-use Rattle.controller.specs.declared.turn.Turn.{Turn}
+use Rattle.controller.specs.Turn.{Turn, turnOf}
 
 -- two bytes a cycle, kind and value; a last odd byte is no cycle
 unfoldable pub cyclesOf : List ℕ → List BusCycle
@@ -16,10 +15,10 @@ cyclesOf (kind ∷ []) = []
 cyclesOf (kind ∷ value ∷ rest) = (kind, value) ∷ cyclesOf rest
 
 -- one cycle's answer, taken apart
-abbrev pub turn : Numbers → State → BusCycle → Turn
-turn k s x = turnOf (s .registers) (answer k (s .registers) (s .memory) (x .0) (x .1))
+abbrev pub turnBy : Numbers → State → BusCycle → Turn
+turnBy k s x = turnOf (s .registers) (answer k (s .registers) (s .memory) (x .0) (x .1))
 
 -- what the cycles answer, each from the chip that the one before left; a refused one changes nothing
 abbrev pub turns : Numbers → State → List BusCycle → List Turn
 turns k s [] = []
-turns k s (x ∷ xs) = turn k s x ∷ turns k (step k s x) xs
+turns k s (x ∷ xs) = turnBy k s x ∷ turns k (step k s x) xs

@@ -8,8 +8,8 @@ use lib.Seq.{sets}
 use Rattle.instructions.specs.declared.numbers.Numbers.{Numbers}
 use Rattle.controller.specs.Run.{BusCycle}
 use Rattle.controller.specs.State.{State, step, run}
-use Rattle.controller.specs.declared.turn.Turn.{Turn}
-use Rattle.bus.specs.Cycles.{turn, turns}
+use Rattle.controller.specs.Turn.{Turn}
+use Rattle.bus.specs.Cycles.{turnBy, turns}
 use Rattle.bus.specs.Run.{Outputs, outputs, numberOf, readOf, byteOf}
 
 -- one answer at entry i, and answers from entry i on
@@ -22,7 +22,7 @@ putFrom o i ts = outputs (sets (o .numbers) i (map numberOf ts)) (sets (o .reads
 -- a turn: the cycle x from the chip s, with its answer at entry i
 pub record TurnPut (k : Numbers) (s : State) (x : BusCycle) (o : Outputs) (i : ℕ) (s′ : State) (o′ : Outputs) : Type 0 where
   pub after : s′ ≡ step k s x
-  pub put : o′ ≡ putAt o i (turn k s x)
+  pub put : o′ ≡ putAt o i (turnBy k s x)
 
 -- cycles from the chip s, with their answers from entry i on
 pub record Filled (k : Numbers) (s : State) (xs : List BusCycle) (o : Outputs) (i : ℕ) (s′ : State) (o′ : Outputs) : Type 0 where

@@ -12,9 +12,8 @@ use Rattle.instructions.specs.Over.{over}
 use Rattle.instructions.specs.declared.numbers.Numbers.{Numbers}
 use Rattle.registers.specs.Registers.{outside}
 use Rattle.registers.specs.declared.Registers.{Registers}
-use Rattle.state.specs.Packed.{flagByte}
 use Rattle.controller.specs.State.{State, state, run}
-use Rattle.controller.specs.declared.turn.Turn.{Turn}
+use Rattle.controller.specs.Turn.{Turn}
 use Rattle.bus.specs.Cycles.{cyclesOf, turns}
 use Rattle.bus.specs.declared.run.Ran.{Ran}
 use Rattle.bus.specs.declared.run.Ran.the-variants.{After, Refused}
@@ -34,7 +33,7 @@ abbrev pub numberOf : Turn → ℕ
 numberOf t = t .number
 
 abbrev pub readOf : Turn → ℕ
-readOf t = flagByte (t .read)
+readOf t = t .read
 
 abbrev pub byteOf : Turn → ℕ
 byteOf t = t .byte

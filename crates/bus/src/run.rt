@@ -15,7 +15,6 @@ use instructions::refusal::SHORT_OUTPUT;
 use instructions::refusal::WRONG_SIZE;
 use registers::Registers;
 use registers::outside_range;
-use state::packed::flag_byte;
 
 // The registers after the cycles, or the number of a refusal.
 pub enum Ran {
@@ -38,11 +37,15 @@ fn turn_at(
     ensures { λ r. ⌜ TurnPut numbers0713 (state registers (now (memory .entry))) (kind, value) (outputs (now (numbers .entry)) (now (reads .entry)) (now (bytes .entry))) i
         (state r (now (memory .exit))) (outputs (now (numbers .exit)) (now (reads .exit)) (now (bytes .exit))) ⌝ }
 {
-    let turn = take_turn(registers, memory, kind, value);
-    numbers[i] = turn.number;
-    reads[i] = flag_byte(turn.read);
-    bytes[i] = turn.byte;
-    turn.registers
+    take_turn(
+        registers,
+        memory,
+        kind,
+        value,
+        &mut numbers[i],
+        &mut reads[i],
+        &mut bytes[i],
+    )
 }
 
 // All the cycles, each with its answer put into outputs that have room for them.

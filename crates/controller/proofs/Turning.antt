@@ -7,9 +7,8 @@ use Rattle.instructions.specs.declared.numbers.Numbers.{Numbers}
 use Rattle.registers.specs.declared.Registers.{Registers}
 use Rattle.controller.specs.Cycle.{outcome, answer, memoryAfter, Cycled}
 use Rattle.controller.specs.State.{state, step}
-use Rattle.controller.specs.Turn.{turnOf, IsTurn}
+use Rattle.controller.specs.Turn.{Turn, turnOf, IsTurn}
 use Rattle.controller.specs.declared.cycle.Answer.{Answer}
-use Rattle.controller.specs.declared.turn.Turn.{Turn}
 
 module _ {k : Numbers} {r : Registers} {m : List ℕ} {kind value : ℕ} {left : List ℕ} where
   -- whatever a cycle answers, its turn is that answer taken apart

@@ -2,27 +2,35 @@
 -- Assumes nothing.
 use Prim.Native.Nat.{ℕ}
 use mathlib.Core.Path.{_≡_}
-use mathlib.Core.Bool.{Bool, true, false}
 use mathlib.Core.Option.{Option, none, some}
 use mathlib.Core.List.{List}
 use Rattle.instructions.specs.declared.numbers.Numbers.{Numbers}
 use Rattle.registers.specs.declared.Registers.{Registers}
 use Rattle.controller.specs.Cycle.{Outcome, answer, memoryAfter}
 use Rattle.controller.specs.State.{afterBy}
-use Rattle.controller.specs.declared.turn.Turn.{Turn}
 
--- whether a byte was read, and the byte, 0 where none was
-abbrev pub isRead : Option ℕ → Bool
-isRead (some b) = true
-isRead none = false
+-- the registers after a cycle, the number that it is refused with, 0 for none, 1 where it read a byte, else 0, and the byte
+pub record Turn : Type 0 where
+  pub registers : Registers
+  pub number : ℕ
+  pub read : ℕ
+  pub byte : ℕ
 
+abbrev pub turn : Registers → ℕ → ℕ → ℕ → Turn
+turn registers number read byte = record { registers = registers; number = number; read = read; byte = byte }
+
+abbrev pub readFlag : Option ℕ → ℕ
+readFlag (some b) = 1
+readFlag none = 0
+
+-- the byte that was read, 0 where none was
 abbrev pub byteRead : Option ℕ → ℕ
 byteRead (some b) = b
 byteRead none = 0
 
--- an answer to a cycle that began with the registers r
+-- an answer to a cycle that began with the registers r: where it gives no registers they stay
 abbrev pub turnOf : Registers → Outcome → Turn
-turnOf r o = record { registers = afterBy r (o .registers); number = o .number; read = isRead (o .byte); byte = byteRead (o .byte) }
+turnOf r o = turn (afterBy r (o .registers)) (o .number) (readFlag (o .byte)) (byteRead (o .byte))
 
 -- what take_turn promises: the cycle's answer, taken apart, and the memory that it leaves
 pub record IsTurn (k : Numbers) (r : Registers) (before : List ℕ) (kind value : ℕ) (t : Turn) (left : List ℕ) : Type 0 where

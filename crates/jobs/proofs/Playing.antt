@@ -15,8 +15,7 @@ use Rattle.instructions.specs.Told.{given}
 use Rattle.instructions.specs.Numbers.{numbers0713}
 use Rattle.registers.specs.declared.Registers.{Registers}
 use Rattle.controller.specs.State.{State, state, poweredUp, step}
-use Rattle.controller.specs.Turn.{turnOf, IsTurn}
-use Rattle.controller.specs.declared.turn.Turn.{Turn}
+use Rattle.controller.specs.Turn.{Turn, readFlag, byteRead, IsTurn}
 use Rattle.controller.proofs.Turning.{turn-steps}
 use Rattle.streams.specs.Length.{updateLength}
 use Rattle.planner.specs.Count.{toldCount, IsLength}
@@ -27,7 +26,7 @@ use Rattle.jobs.specs.Header.{cycleAt, picture2, IsHeader}
 use Rattle.jobs.specs.Text.{badLine, endLine, updateLine}
 use Rattle.jobs.specs.Memory.{startMemory}
 use Rattle.jobs.specs.Play.{lineOf, answerAt, ending, textFrom, powerUp, textBy, textOf, IsPlayed}
-use Rattle.jobs.specs.Output.{Put, Remains, turnLine, Turned, Holds}
+use Rattle.jobs.specs.Output.{Put, Remains, lineBy, Turned, Holds}
 use Rattle.jobs.specs.declared.header.Job.{Job}
 use Rattle.jobs.specs.declared.header.Header.{Header}
 use Rattle.jobs.specs.declared.header.Header.the-variants as header
@@ -37,20 +36,22 @@ use Rattle.jobs.proofs.Putting.{sets-append, put-most, put-then}
 -- ---- a turn
 
 -- the line by the answer taken apart is the line by the answer
-line-by : (i : ℕ) (r : Registers) (number : ℕ) (byte : Option ℕ) (after : Option Registers)
-    → turnLine i (turnOf r (record { number = number; byte = byte; registers = after })) ≡ lineOf i (record { number = number; byte = byte; registers = after })
+line-is : (i number : ℕ) (byte : Option ℕ) (after : Option Registers)
+    → lineBy i number (readFlag byte) (byteRead byte) ≡ lineOf i (record { number = number; byte = byte; registers = after })
 unfolding lineOf
-line-by i r number (some b) after = refl
-line-by i r number none after = refl
+line-is i number (some b) after = refl
+line-is i number none after = refl
 
 pub turned : (file : List ℕ) (i : ℕ) {r : Registers} {m m′ o o′ : List ℕ} {at at′ : ℕ} {t : Turn}
-    → IsTurn numbers0713 r m (cycleAt file i .0) (cycleAt file i .1) t m′ → Put o at (turnLine i t) o′ at′ 44
+    → IsTurn numbers0713 r m (cycleAt file i .0) (cycleAt file i .1) t m′ → Put o at (lineBy i (t .number) (t .read) (t .byte)) o′ at′ 44
     → Turned file i (state r m) o at (state (t .registers) m′) o′ at′
 turned file i {r} {m} {o = o} {o′ = o′} {at = at} {at′ = at′} q p =
     let a = answerAt file i (state r m) in
     record {
       after = turn-steps q;
-      line = subst (λ (l : List ℕ). Put o at l o′ at′ 44) (ap (turnLine i) (q .tells) ∙ line-by i r (a .number) (a .byte) (a .registers)) p;
+      line =
+          subst (λ (l : List ℕ). Put o at l o′ at′ 44)
+          (ap (λ (x : Turn). lineBy i (x .number) (x .read) (x .byte)) (q .tells) ∙ line-is i (a .number) (a .byte) (a .registers)) p;
     }
 
 -- ---- what remains to be put

@@ -10,7 +10,6 @@ use lib.Seq.{sets}
 use Rattle.instructions.specs.Numbers.{numbers0713}
 use Rattle.registers.specs.declared.Registers.{Registers}
 use Rattle.controller.specs.State.{State, step}
-use Rattle.controller.specs.declared.turn.Turn.{Turn}
 use Rattle.jobs.specs.Header.{cycleAt}
 use Rattle.jobs.specs.Text.{field, newline, flag, modifyFlag, readLine, refusalLine}
 use Rattle.jobs.specs.Play.{lineOf, answerAt}
@@ -34,8 +33,8 @@ pub record Holds (file : List ℕ) (j : Job) : Type 0 where
   pub whole : length file ≡ 8 + 2 * j .cycles + 1188 * j .pictures
 
 -- the line of cycle i by its answer taken apart, as the code asks: a refusal's, a read's, or none
-abbrev pub turnLine : ℕ → Turn → List ℕ
-turnLine i t = cond (eqb (t .number) 0) (cond (t .read) (readLine i (t .byte)) []) (refusalLine i (t .number))
+abbrev pub lineBy : ℕ → ℕ → ℕ → ℕ → List ℕ
+lineBy i number read byte = cond (eqb number 0) (cond (eqb read 0) [] (readLine i byte)) (refusalLine i number)
 
 -- a turn: cycle i of a file from the state s, with the output o at `at`
 pub record Turned (file : List ℕ) (i : ℕ) (s : State) (o : List ℕ) (at : ℕ) (s′ : State) (o′ : List ℕ) (at′ : ℕ) : Type 0 where

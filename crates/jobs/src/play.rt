@@ -8,7 +8,6 @@ use crate::text::put_end;
 use crate::text::put_read;
 use crate::text::put_refusal;
 use crate::text::put_update;
-use controller::turn::Turn;
 use controller::turn::take_turn;
 use instructions::refusal::SHORT_OUTPUT;
 use planner::count::Count;
@@ -23,7 +22,7 @@ ghost use Rattle.controller.specs.State.{state, poweredUp};
 ghost use Rattle.streams.specs.Length.{updateLength};
 ghost use Rattle.jobs.specs.Header.{picture2};
 ghost use Rattle.jobs.specs.Play.{ending, textFrom, powerUp, textOf, IsPlayed};
-ghost use Rattle.jobs.specs.Output.{Put, Remains, Turned, Holds, turnLine};
+ghost use Rattle.jobs.specs.Output.{Put, Remains, Turned, Holds, lineBy};
 
 // The length of the text, or the number of a refusal.
 pub enum Played {
@@ -37,16 +36,16 @@ struct After {
     at: usize,
 }
 
-// A cycle's line, where it has one: a refusal's or a read's.
-fn put_line(out: &mut [u8], at: usize, i: usize, turn: Turn) -> usize
+// A cycle's line, where it has one: that of its refusal, or of the byte that it read.
+fn put_line(out: &mut [u8], at: usize, i: usize, number: u8, read: u8, byte: u8) -> usize
     requires { ⌜ at < 1000000 ⌝ }
-    ensures { λ r. ⌜ Put (now (out .entry)) at (turnLine i turn) (now (out .exit)) r 44 ⌝ }
+    ensures { λ r. ⌜ Put (now (out .entry)) at (lineBy i number read byte) (now (out .exit)) r 44 ⌝ }
 {
-    if turn.number != 0 {
-        return put_refusal(out, at, i, turn.number);
+    if number != 0 {
+        return put_refusal(out, at, i, number);
     }
-    if turn.read {
-        return put_read(out, at, i, turn.byte);
+    if read != 0 {
+        return put_read(out, at, i, byte);
     }
     at
 }
@@ -64,11 +63,21 @@ fn play_cycle(
     ensures { λ a. ⌜ Turned (now (file .entry)) i (state registers (now (memory .entry))) (now (out .entry)) at
         (state (a .registers) (now (memory .exit))) (now (out .exit)) (a .at) ⌝ }
 {
-    let turn = take_turn(registers, memory, file[8 + 2 * i], file[9 + 2 * i]);
-    let next = turn.registers;
+    let mut number: u8 = 0;
+    let mut read: u8 = 0;
+    let mut byte: u8 = 0;
+    let next = take_turn(
+        registers,
+        memory,
+        file[8 + 2 * i],
+        file[9 + 2 * i],
+        &mut number,
+        &mut read,
+        &mut byte,
+    );
     After {
         registers: next,
-        at: put_line(out, at, i, turn),
+        at: put_line(out, at, i, number, read, byte),
     }
 }
 

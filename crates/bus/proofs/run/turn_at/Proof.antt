@@ -9,13 +9,12 @@ pub turn-at-spec : {M : Type 1} → statement M
 turn-at-spec =
     tie.close
     (tie.spec
+    (λ c. search needs)
+    (λ c. search needs)
+    (λ c. search needs)
     (λ c κs. search needs)
     (λ c. search needs)
-    (λ c κs. search needs)
     (λ c. search needs)
     (λ c. search needs)
     (λ c. search needs)
-    (λ c. search needs)
-    (λ c. search needs)
-    (λ c. search needs)
-    (λ c. turn-put _ _ _ (c .before .before .before .before .take-turn .ensures) (c .before .flag-byte .ensures)))
+    (λ c. turn-put _ _ (c .before .before .take-turn .ensures)))

@@ -19,4 +19,4 @@ play-cycle-spec =
     (λ c κs. search needs)
     (λ c. search needs)
     (λ c. search needs)
-    (λ c. turned _ _ (c .before .before .before .before .before .before .before .take-turn .ensures) (c .before .before .put-line .ensures)))
+    (λ c. turned _ _ (c .before .before .before .before .before .before .take-turn .ensures) (c .before .before .put-line .ensures)))

@@ -1,7 +1,7 @@
 -- `jobs::play::put_line` meets its contract: a refusal's line, a read's, or none.
 -- Assumes nothing.
-use borrow.Author.Needs.{needs}
 use native.Mathlib.Omega.{arith}
+use borrow.Author.Needs.{needs}
 use borrow.Author.Tests.{eq-eqb, ne-eqb}
 use Rattle.jobs.proofs.Putting.{put-none, put-most}
 use Rattle.jobs.proofs.play.put_line.Statement.{statement}
@@ -16,5 +16,5 @@ put-line-spec =
     (λ c. rw (ne-eqb _ _ (c .before .before .before .before .if1 .taken)) (c .before .before .put-refusal .ensures))
     (λ c κs. search needs)
     (λ c. search needs)
-    (λ c. rw (eq-eqb _ _ (c .before .before .before .before .before .if1 .left), c .before .before .before .before .if2 .taken) (put-most (omega arith) (c .before .before .put-read .ensures)))
-    (λ c. rw (eq-eqb _ _ (c .before .if1 .left), c .if2 .left) (put-most (omega arith) (put-none _ _))))
+    (λ c. rw (eq-eqb _ _ (c .before .before .before .before .before .if1 .left), ne-eqb _ _ (c .before .before .before .before .if2 .taken)) (put-most (omega arith) (c .before .before .put-read .ensures)))
+    (λ c. rw (eq-eqb _ _ (c .before .if1 .left), eq-eqb _ _ (c .if2 .left)) (put-most (omega arith) (put-none _ _))))

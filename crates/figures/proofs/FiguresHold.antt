@@ -20,14 +20,14 @@ use Rattle.streams.specs.Length.{differing, gaps, gapCost, pageLength, lengthFr
 use Rattle.streams.proofs.Length.{update-length}
 use Rattle.figures.specs.Figures.{zeros, icons, Figures}
 
+-- ---- the two figures of 0 bytes
+
 no-bytes : (s : List BusCycle) → length s ≡ 0 → s ≡ []
 no-bytes [] e = refl
 no-bytes (x ∷ s) e = absurd (omega arith)
 
 no-update : (recorded wanted : List ℕ) → updateLength 132 recorded wanted ≡ 0 → updateStream 132 recorded wanted ≡ []
 no-update recorded wanted e = no-bytes (updateStream 132 recorded wanted) (update-length 132 recorded wanted ∙ e)
-
--- ---- the two figures of 0 bytes
 
 equal-0 : updateLength 132 zeros zeros ≡ 0
 unfolding cellOf shown differs differing gaps gapCost pageLength lengthFrom updateLength

@@ -63,6 +63,7 @@ fn good() {
     example(b"refused.job");
     example(b"update.job");
     example(b"screen.job");
+    example(b"corners.job");
     example(b"unwritten.job");
     example(b"end-1.job");
     example(b"end-2.job");

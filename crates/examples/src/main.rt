@@ -12,6 +12,13 @@ fn room() -> [u8; 210000]
     [0; 210000]
 }
 
+// Room for a file. The longest has 8 + 65,536 bytes, so one that fills it is too long, and was perhaps cut.
+fn file_room() -> [u8; 70000]
+    ensures { λ r. ⌜ 70000 ≡ length r ⌝ }
+{
+    [0; 70000]
+}
+
 // The text of a file.
 fn tell(file: &[u8], text: &mut [u8]) {
     match play(file, text) {
@@ -35,9 +42,13 @@ fn example(name: &[u8]) {
         io::write_all(1, b"missing\n");
         return;
     }
-    let mut file = io::large_buffer();
+    let mut file = file_room();
     let n = io::read_full(from, &mut file);
     libc::close(from);
+    if n == file.len() {
+        io::write_all(1, b"too long\n");
+        return;
+    }
     let mut text = room();
     tell(&file[..n], &mut text);
 }
@@ -52,6 +63,11 @@ fn good() {
     example(b"refused.job");
     example(b"update.job");
     example(b"screen.job");
+    example(b"corners.job");
+    example(b"unwritten.job");
+    example(b"end-1.job");
+    example(b"end-2.job");
+    example(b"end-3.job");
 }
 
 // Damaged files, of each kind.
@@ -67,6 +83,7 @@ fn bad() {
     example(b"byte-long.job");
     example(b"kind-six.job");
     example(b"status-value.job");
+    example(b"pin-value.job");
 }
 
 fn main() {

@@ -1,17 +1,43 @@
--- Document 01's figures marked P hold: each is computed from the definitions that the promises cite.
+-- Document 01's figures marked P hold: each is computed from the definitions that the promises cite. A stream of no bytes is shown
+-- by its length, which is quicker to compute.
 -- Assumes nothing.
-use mathlib.Core.Path.{refl}
+use Prim.Native.Nat.{ℕ}
+use mathlib.Core.Path.{_≡_, _∙_, refl}
+use mathlib.Core.List.{List, [], _∷_}
+use native.Mathlib.Omega.{arith}
+use lib.ListN.{length}
 use Rattle.instructions.specs.Read.{classOf, roomIn, readBy, readFirst}
 use Rattle.registers.specs.Registers.{outside}
 use Rattle.controller.specs.Memory.{cellOf, isCell, stored, advanced}
 use Rattle.controller.specs.Cycle.{written, status, carried, kept, refusal, answer, memoryAfter}
+use Rattle.controller.specs.Run.{BusCycle}
 use Rattle.glass.specs.Dot.{lineOf}
 use Rattle.glass.specs.Voltage.{numerator}
 use Rattle.streams.specs.Picture.{shown, differs}
 use Rattle.streams.specs.Stretch.{onIt, address, emitBy}
 use Rattle.streams.specs.Update.{joins, join, joinIf, runs, wantedBytes, stretchOf, pageWork, workFrom, update, updateStream}
 use Rattle.streams.specs.Length.{differing, gaps, gapCost, pageLength, lengthFrom, updateLength}
-use Rattle.figures.specs.Figures.{Figures}
+use Rattle.streams.proofs.Length.{update-length}
+use Rattle.figures.specs.Figures.{zeros, icons, Figures}
+
+-- ---- the two figures of 0 bytes
+
+no-bytes : (s : List BusCycle) → length s ≡ 0 → s ≡ []
+no-bytes [] e = refl
+no-bytes (x ∷ s) e = absurd (omega arith)
+
+no-update : (recorded wanted : List ℕ) → updateLength 132 recorded wanted ≡ 0 → updateStream 132 recorded wanted ≡ []
+no-update recorded wanted e = no-bytes (updateStream 132 recorded wanted) (update-length 132 recorded wanted ∙ e)
+
+equal-0 : updateLength 132 zeros zeros ≡ 0
+unfolding cellOf shown differs differing gaps gapCost pageLength lengthFrom updateLength
+equal-0 = refl
+
+page-8-0 : updateLength 132 zeros (icons 0xfe) ≡ 0
+unfolding cellOf shown differs differing gaps gapCost pageLength lengthFrom updateLength
+page-8-0 = refl
+
+-- ---- all of them
 
 pub figures : Figures
 unfolding classOf roomIn readBy readFirst outside cellOf isCell stored advanced written status carried kept refusal answer memoryAfter shown differs onIt address emitBy joins join joinIf runs wantedBytes stretchOf pageWork workFrom update updateStream differing gaps gapCost pageLength lengthFrom updateLength lineOf numerator
@@ -24,13 +50,15 @@ figures = record {
   contrast = refl;
   row-5 = refl;
   row-0 = refl;
-  equal = refl;
+  equal = no-update zeros zeros equal-0;
+  equal-length = equal-0;
   one-byte = refl;
   gap-of-1 = refl;
   gap-of-2 = refl;
   gap-of-3 = refl;
   gap-lengths = refl;
-  page-8 = refl;
+  page-8 = no-update zeros (icons 0xfe) page-8-0;
+  page-8-length = page-8-0;
   v0-numerator = refl;
   v0-denominator = refl;
 }

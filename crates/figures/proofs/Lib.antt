@@ -1,1 +1,2 @@
 pub mod FiguresHold
+pub mod WorkedHolds

@@ -57,10 +57,11 @@ pub record Figures : Type 0 where
   -- 81 then FF: contrast 63
   pub contrast : after (instruction 0x81 ∷ instruction 0xff ∷ []) .registers .contrast ≡ 63
   -- start 60, SHL 0, row 5: line 1. SHL 1, row 0: line 59
-  pub row-5 : lineOf 64 60 false 5 ≡ 1
-  pub row-0 : lineOf 64 60 true 0 ≡ 59
+  pub row-5 : lineOf (numbers0713 .rows) 60 false 5 ≡ 1
+  pub row-0 : lineOf (numbers0713 .rows) 60 true 0 ≡ 59
   -- pictures equal: 0 bytes
-  pub equal : updateLength 132 zeros zeros ≡ 0
+  pub equal : updateStream 132 zeros zeros ≡ []
+  pub equal-length : updateLength 132 zeros zeros ≡ 0
   -- only page 3 column 37 differs, wanted FF: B3 12 05 FF
   pub one-byte : updateStream 132 zeros (spot 3 37 0xff zeros) ≡ instruction 0xb3 ∷ instruction 0x12 ∷ instruction 0x05 ∷ byte 0xff ∷ []
   -- page 0, columns 10 and 12: 6 bytes; 10 and 13: 7, one stretch; 10 and 14: 7, two
@@ -72,7 +73,8 @@ pub record Figures : Type 0 where
       ≡ instruction 0xb0 ∷ instruction 0x10 ∷ instruction 0x0a ∷ byte 1 ∷ instruction 0x10 ∷ instruction 0x0e ∷ byte 2 ∷ []
   pub gap-lengths : updateLength 132 zeros (spot 0 10 1 (spot 0 14 2 zeros)) ≡ 7
   -- page 8 recorded 00, wanted FE: 0 bytes
-  pub page-8 : updateLength 132 zeros (icons 0xfe) ≡ 0
+  pub page-8 : updateStream 132 zeros (icons 0xfe) ≡ []
+  pub page-8-length : updateLength 132 zeros (icons 0xfe) ≡ 0
   -- resistor 7, contrast 63: 194,400/15
   pub v0-numerator : numerator 7 63 ≡ 194400
   pub v0-denominator : denominator ≡ 15

@@ -1,5 +1,6 @@
 -- What read_header and play promise fixes what they answer and leave: what is told of an answer tells all answers apart, since it has an
--- inverse. And each number is given exactly when its line of document 01's table holds and none before it does.
+-- inverse. And each number is given exactly when its line of document 01's table holds and none before it does, and a refusal leaves
+-- the output as it was.
 -- Assumes nothing.
 use Prim.Native.Nat.{ℕ, zero, suc, _+_, _≤_, _<_}
 use mathlib.Core.Path.{_≡_, refl, sym, ap, subst, _∙_}
@@ -157,8 +158,8 @@ only-by file n (good h s c e) f = absurd (not-given (f ∙ e))
 pub header-only : (file : List ℕ) (n : ℕ) → IsHeader file (header.Refused n) → (n ≡ shortJob) ⊎ ((n ≡ wrongHeader) ⊎ (n ≡ wrongCycle))
 header-only file n f = only-by file n (way file) (f .tells)
 
-pub header-not-0 : (file : List ℕ) → IsHeader file (header.Refused 0) → ⊥
-header-not-0 file f = ⊎-elim (λ e. omega arith) (⊎-elim (λ e. omega arith) (λ e. omega arith)) (header-only file 0 f)
+pub header-not-0 : (file : List ℕ) (n : ℕ) → IsHeader file (header.Refused n) → n ≢ 0
+header-not-0 file n f z = ⊎-elim (λ e. omega arith) (⊎-elim (λ e. omega arith) (λ e. omega arith)) (header-only file n f)
 
 -- ---- play is refused with 5 exactly if the output is shorter than the text, and with nothing else
 
@@ -184,5 +185,8 @@ played-only file out n left f = less (length out) (length (textOf file))
     (λ h. ap (λ t. t .number) (ap toldPlayed (played-short file out _ left f h .0)))
     (λ h. absurd (not-given (ap toldPlayed (played-long file out _ left f h .0))))
 
-pub played-not-0 : (file out left : List ℕ) → IsPlayed file out (played.Refused 0) left → ⊥
-played-not-0 file out left f = omega (arith, played-only file out 0 left f)
+-- a refusal's number is not 0, and it leaves the output as it was
+pub played-refused-leaves : (file out : List ℕ) (n : ℕ) (left : List ℕ) → IsPlayed file out (played.Refused n) left → (n ≢ 0) × (left ≡ out)
+played-refused-leaves file out n left f =
+    let e = played-only file out n left f in
+    (λ z. omega arith, played-short file out _ left f (played-5 file out _ left f .0 (ap played.Refused e)) .1)

@@ -4,6 +4,7 @@
 use Prim.Native.Nat.{ℕ, _<_}
 use mathlib.Core.Path.{_≡_, _∙_, refl, ap, sym, subst}
 use mathlib.Core.Bool.{Bool, true, false, cond}
+use mathlib.Core.Option.{none}
 use mathlib.Core.List.{List, [], _∷_, _++_, map}
 use native.Mathlib.Omega.{arith}
 use lib.Dec.{lit≤, ltb, eqb}
@@ -11,14 +12,19 @@ use borrow.Author.Tests.{eqb-true, ltb-false}
 use lib.ListN.{length, take, drop}
 use Rattle.instructions.specs.Refusal.{wrongSize, outsideField, shortOutput}
 use Rattle.instructions.specs.Told.{given}
+use Rattle.instructions.specs.Numbers.{numbers0713}
 use Rattle.instructions.proofs.Telling.{given-one, not-given}
+use Rattle.registers.specs.Registers.{outside, PoweredUp}
 use Rattle.registers.specs.declared.Registers.{Registers}
 use Rattle.controller.specs.Run.{BusCycle}
 use Rattle.controller.specs.State.{State, state, rest, settings}
 use Rattle.controller.proofs.Chips.{chip0713, restart0713, moved, redrawn}
-use Rattle.streams.specs.Update.{updateStream}
+use Rattle.streams.specs.Stretch.{emit}
+use Rattle.streams.specs.Update.{update, updateStream}
 use Rattle.streams.specs.Redraw.{redrawStream}
 use Rattle.streams.specs.Demand.{Recorded, Restarts}
+use Rattle.streams.proofs.Pictures.{same-refl}
+use Rattle.streams.proofs.Painting.{update-kind}
 use Rattle.streams.proofs.Length.{update-length, update-most, redraw-length}
 use Rattle.streams.proofs.Updating.{update-right, update-least, update-cut, cut-accepted}
 use Rattle.streams.proofs.Redrawing.{redraw-right, redraw-cut}
@@ -51,7 +57,21 @@ holding s picture h = record {
   same = h .same;
 }
 
+-- ---- power-up meets the premises: of a redraw, and of an update if the memory as lent is the recorded picture
+
+pub power-up-pin-high : (r : Registers) (m : List ℕ) → PoweredUp numbers0713 r → length m ≡ 1188 → PinHigh r m
+unfolding outside
+power-up-pin-high r m p h = record { ranged = rw (p .tells) refl; high = ap (λ s. s .«pin_low») (p .tells); long = h }
+
+pub power-up-holds : (r : Registers) (m : List ℕ) → PoweredUp numbers0713 r → length m ≡ 1188 → Holding r m m
+power-up-holds r m p h =
+    record { pin = power-up-pin-high r m p h; quiet = ap (λ s. s .awaited) (p .tells); same = same-refl 132 m }
+
 -- ---- the update
+
+update-stream : (recorded wanted : List ℕ) → updateStream 132 recorded wanted ≡ emit none (update 132 recorded wanted)
+unfolding updateStream
+update-stream recorded wanted = refl
 
 pub update-updates : (r : Registers) (m recorded wanted : List ℕ) → Holding r m recorded → Updates r m recorded wanted (updateStream 132 recorded wanted)
 update-updates r m recorded wanted h =
@@ -68,6 +88,8 @@ update-updates r m recorded wanted h =
       registers = moved (t .registers) r (u .rest) (ap (λ v. v .page) (u .exact)) (ap (λ v. v .column) (u .exact)) (ap (λ v. v .holder) (u .exact));
       count = n;
       most = omega (arith, n, update-most 132 recorded wanted);
+      of-kind = update-kind 132 recorded wanted;
+      stream = update-stream recorded wanted;
       least = λ xs ok e. omega (arith, n, update-least chip0713 s recorded wanted p xs ok e);
       cut = λ n. update-cut chip0713 s recorded wanted p n .between;
       cut-accepted = λ n. cut-accepted chip0713 s recorded wanted p n;

@@ -1,6 +1,6 @@
 -- What the four promises fix. Two answers that a promise admits are equal, and so are the outputs they leave; each number is
--- answered exactly when its line of document 01's table holds and none earlier in the order does; the first difference is the first
--- in reading order; outputs that are long enough get their stream. All from the promises alone: what is told of an answer has an
+-- answered exactly when its line of document 01's table holds and none earlier in the order does, and a refusal leaves both outputs
+-- as they were; the first difference is the first in reading order; outputs that are long enough get their stream. All from the promises alone: what is told of an answer has an
 -- inverse, and each promise names the number.
 -- Assumes nothing.
 use Prim.Native.Nat.{ℕ, _+_, _*_, _≤_, _<_}
@@ -14,7 +14,7 @@ use lib.ListN.{length, length-append, length-map}
 use lib.Dec.{ltb, eqb}
 use borrow.Author.Tests.{ltb-true, ltb-false, lt-ltb, le-ltb, eqb-true, eqb-false}
 use Rattle.instructions.specs.Told.{given}
-use Rattle.instructions.proofs.Telling.{apart, answerOf}
+use Rattle.instructions.proofs.Telling.{apart, answerOf, refused-one, not-given}
 use Rattle.controller.specs.Run.{BusCycle}
 use Rattle.streams.specs.Picture.{shown, Same}
 use Rattle.streams.specs.Stretch.{Place}
@@ -114,11 +114,12 @@ none-some e = absurd (let z : _≡_ {A = ℕ} 0 1 = cc in omega arith)
 some-one : {A : Type 0} {x y : A} → some x ≡ some y → x ≡ y
 some-one e = cc
 
--- a refusal carries a number that is not 0
-refused-some : {number n : ℕ} {s : List BusCycle} {out kinds o k : List ℕ} → Sent number s out kinds (count.Refused n) o k → n ≢ 0
-refused-some {number} {n} f z = split (eqb number 0)
-    (λ t. let e = rw t at (f .tells) in none-some (ap (λ x. x .value) e))
-    (λ t. let e = rw t at (f .tells) in eqb-false number 0 t (sym (ap (λ x. x .number) e) ∙ z))
+-- a refusal carries a number that is not 0, and leaves both outputs as they were
+pub sent-refused-leaves : {number n : ℕ} {s : List BusCycle} {out kinds o k : List ℕ}
+    → Sent number s out kinds (count.Refused n) o k → (n ≢ 0) × (o ≡ out) × (k ≡ kinds)
+sent-refused-leaves {number} {n} f = split (eqb number 0)
+    (λ t. absurd (not-given (rw t at (f .tells))))
+    (λ t. (λ z. eqb-false number 0 t (sym (refused-one (rw t at (f .tells))) ∙ z), rw t at (f .bytes), rw t at (f .kinds-left)))
 
 -- ---- first_difference and update_length are refused with 1 exactly if a picture is not nine pages, and with nothing else
 
@@ -178,7 +179,7 @@ module _ (W : ℕ) (r w out kinds : List ℕ) where
   pub update-only : (n : ℕ) (o k : List ℕ) → IsUpdate W r w out kinds (count.Refused n) o k → (n ≡ 1) ⊎ (n ≡ 5)
   update-only n o k f = ⊎-elim
       inl
-      (λ e. ⊎-elim inr (λ z. absurd (refused-some f z)) (among short 5 0 n e))
+      (λ e. ⊎-elim inr (λ z. absurd (sent-refused-leaves f .0 z)) (among short 5 0 n e))
       (among wrong 1 (cond short 5 0) n (update-number (count.Refused n) o k f))
 
 -- ---- redraw is refused with 1, then 6, then 5
@@ -221,22 +222,24 @@ module _ (W : ℕ) (w : List ℕ) (contrast : ℕ) (out kinds : List ℕ) where
   pub redraw-only : (n : ℕ) (o k : List ℕ) → IsRedraw W w contrast out kinds (count.Refused n) o k → (n ≡ 1) ⊎ ((n ≡ 6) ⊎ (n ≡ 5))
   redraw-only n o k f = ⊎-elim
       inl
-      (λ e. inr (⊎-elim inl (λ d. inr (⊎-elim (λ x. x) (λ z. absurd (refused-some f z)) (among brief 5 0 n d))) (among (ltb 63 contrast) 6 (cond brief 5 0) n e)))
+      (λ e. inr (⊎-elim inl (λ d. inr (⊎-elim (λ x. x) (λ z. absurd (sent-refused-leaves f .0 z)) (among brief 5 0 n d))) (among (ltb 63 contrast) 6 (cond brief 5 0) n e)))
       (among (misfit W w) 1 (cond (ltb 63 contrast) 6 (cond brief 5 0)) n (redraw-number (count.Refused n) o k f))
 
--- ---- no promise admits a refusal with 0
+-- ---- a refusal's number is not 0, and it alters nothing
 
-pub first-not-0 : (W : ℕ) (r w : List ℕ) → IsFirst W r w (found.Refused 0) → ⊥
-first-not-0 W r w f = absurd (omega (arith, first-only W r w 0 f))
+pub first-not-0 : (W : ℕ) (r w : List ℕ) (n : ℕ) → IsFirst W r w (found.Refused n) → n ≢ 0
+first-not-0 W r w n f z = omega (arith, first-only W r w n f)
 
-pub length-not-0 : (W : ℕ) (r w : List ℕ) → IsLength W r w (count.Refused 0) → ⊥
-length-not-0 W r w f = absurd (omega (arith, length-only W r w 0 f))
+pub length-not-0 : (W : ℕ) (r w : List ℕ) (n : ℕ) → IsLength W r w (count.Refused n) → n ≢ 0
+length-not-0 W r w n f z = omega (arith, length-only W r w n f)
 
-pub update-not-0 : (W : ℕ) (r w out kinds o k : List ℕ) → IsUpdate W r w out kinds (count.Refused 0) o k → ⊥
-update-not-0 W r w out kinds o k f = refused-some f refl
+pub update-refused-leaves : (W : ℕ) (r w out kinds : List ℕ) (n : ℕ) (o k : List ℕ)
+    → IsUpdate W r w out kinds (count.Refused n) o k → (n ≢ 0) × (o ≡ out) × (k ≡ kinds)
+update-refused-leaves W r w out kinds n o k f = sent-refused-leaves f
 
-pub redraw-not-0 : (W : ℕ) (w : List ℕ) (contrast : ℕ) (out kinds o k : List ℕ) → IsRedraw W w contrast out kinds (count.Refused 0) o k → ⊥
-redraw-not-0 W w contrast out kinds o k f = refused-some f refl
+pub redraw-refused-leaves : (W : ℕ) (w : List ℕ) (contrast : ℕ) (out kinds : List ℕ) (n : ℕ) (o k : List ℕ)
+    → IsRedraw W w contrast out kinds (count.Refused n) o k → (n ≢ 0) × (o ≡ out) × (k ≡ kinds)
+redraw-refused-leaves W w contrast out kinds n o k f = sent-refused-leaves f
 
 -- ---- outputs that are long enough get their stream
 

@@ -67,6 +67,9 @@ pub record Updates (r : Registers) (m recorded wanted : List ℕ) (cycles : List
   -- its byte count is 01's formula, never over 1,215
   pub count : length cycles ≡ updateLength 132 recorded wanted
   pub most : length cycles ≤ 1215
+  -- it is an update of the kind: its cycles are those of stretches of the kind, which leave the wanted picture
+  pub of-kind : OfKind 132 (update 132 recorded wanted)
+  pub stream : cycles ≡ emit none (update 132 recorded wanted)
   -- no update of that kind is shorter
   pub least : (xs : List Stretch) → OfKind 132 xs → Same 132 (played r m (emit none xs) .memory) wanted → length cycles ≤ length (emit none xs)
   -- cut off after any byte, every memory byte shows its recorded or its wanted value, and the chip is as after a restart at worst

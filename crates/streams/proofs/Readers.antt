@@ -1,17 +1,22 @@
 -- How the update's stretches lie: on each page they begin and end on differing columns, rise, lie at least 3 equal columns apart,
 -- and everything outside them is equal. A column that joins a run ends it on the left; the rest of the run stays. And the stream is
--- its page groups, one after the other, since each is a walk of its own.
+-- its page groups, one after the other, since each is a walk of its own. The redraw's stream is these bytes in this order: its
+-- definition computes to them.
 -- Assumes nothing.
 use Prim.Native.Nat.{ℕ, zero, suc, _+_, _-_}
-use mathlib.Core.Path.{_≡_, refl, sym, _∙_}
+use mathlib.Core.Path.{_≡_, refl, sym, ap, _∙_}
 use mathlib.Core.Bool.{Bool, true, false}
 use mathlib.Core.Option.{none}
-use mathlib.Core.List.{List, [], _∷_}
+use mathlib.Core.List.{List, [], _∷_, _++_, append-nil}
 use native.Mathlib.Omega.{arith}
-use Rattle.streams.specs.Picture.{differs}
-use Rattle.streams.specs.Update.{Run, joins, join, joinIf, runs, updateStream}
+use Rattle.instructions.specs.Listed.{listed}
+use Rattle.controller.specs.Memory.{cellOf}
+use Rattle.streams.specs.Picture.{shown, differs}
+use Rattle.streams.specs.Stretch.{onIt, address, emitBy}
+use Rattle.streams.specs.Update.{Run, joins, join, joinIf, runs, wantedBytes, updateStream}
+use Rattle.streams.specs.Redraw.{wholePage, wholePages, redraw, redrawStream}
 use Rattle.streams.specs.Walk.{walkPages}
-use Rattle.streams.specs.Shape.{Equal, Edge, Tidy, groups}
+use Rattle.streams.specs.Shape.{Equal, Edge, Tidy, groups, pageGroup, pageCells, iconCells}
 use Rattle.instructions.proofs.Cases.{split, less}
 use Rattle.streams.proofs.Runs.{joins-far}
 use Rattle.streams.proofs.Walking.{page-walk, update-walk}
@@ -77,3 +82,19 @@ module _ (W : ℕ) (r w : List ℕ) where
 
   pub update-groups : updateStream W r w ≡ groups W r w 0 9
   update-groups = update-walk W r w ∙ sym (groups-walk 0 9)
+
+-- ---- the redraw, byte by byte
+
+module _ (W : ℕ) (w : List ℕ) where
+  bytes-listed : (p c n : ℕ) → wantedBytes W w p c n ≡ listed (shown W w p) c n
+  unfolding wantedBytes
+  bytes-listed p c zero = refl
+  bytes-listed p c (suc n) = ap (λ (l : List ℕ). shown W w p c ∷ l) (bytes-listed p (suc c) n)
+
+  -- E3, AC, 81 and the contrast; then each page's byte, 10, 00 and its W cells as data
+  pub redraw-bytes : (v : ℕ) → redrawStream W w v ≡ (0, 0xe3) ∷ (0, 0xac) ∷ (0, 0x81) ∷ (0, v)
+      ∷ (pageGroup 0xb0 (pageCells W w 0) ++ (pageGroup 0xb1 (pageCells W w 1) ++ (pageGroup 0xb2 (pageCells W w 2)
+      ++ (pageGroup 0xb3 (pageCells W w 3) ++ (pageGroup 0xb4 (pageCells W w 4) ++ (pageGroup 0xb5 (pageCells W w 5)
+      ++ (pageGroup 0xb6 (pageCells W w 6) ++ (pageGroup 0xb7 (pageCells W w 7) ++ pageGroup 0xb8 (iconCells W w)))))))))
+  unfolding redrawStream redraw wholePages wholePage emitBy address onIt shown cellOf
+  redraw-bytes v = simp (bytes-listed, append-nil)

@@ -1,10 +1,13 @@
--- What a reader may want to know of the update: how its stretches lie, and that each page is a group of its own.
+-- What a reader may want to know of the streams: how the update's stretches lie, that each page is a group of its own, and the
+-- redraw's groups byte by byte.
 -- Assumes nothing.
-use Prim.Native.Nat.{ℕ, zero, suc, _+_, _≤_, _<_}
+use Prim.Native.Nat.{ℕ, zero, suc, _+_, _*_, _%_, _≤_, _<_}
 use mathlib.Core.Path.{_≡_}
 use mathlib.Core.Bool.{Bool, true, false}
 use mathlib.Core.Option.{none}
-use mathlib.Core.List.{List, [], _∷_, _++_}
+use mathlib.Core.List.{List, [], _∷_, _++_, map}
+use lib.ListN.{getD}
+use Rattle.instructions.specs.Listed.{listed}
 use Rattle.controller.specs.Run.{BusCycle}
 use Rattle.streams.specs.Stretch.{emit}
 use Rattle.streams.specs.Update.{Run, pageWork}
@@ -37,3 +40,14 @@ Tidy d c e (r ∷ rs) = Edge d c r × Beyond (r .start + r .size + 3) rs × Tidy
 unfoldable pub groups : ℕ → List ℕ → List ℕ → ℕ → ℕ → List BusCycle
 groups W recorded wanted p zero = []
 groups W recorded wanted p (suc n) = emit none (pageWork W recorded wanted p) ++ groups W recorded wanted (suc p) n
+
+-- a whole page of a redraw: its page byte, 10 and 00 for column 0, and its cells as data
+abbrev pub pageGroup : ℕ → List ℕ → List BusCycle
+pageGroup byte cells = (0, byte) ∷ (0, 0x10) ∷ (0, 0x00) ∷ map (λ v. (1, v)) cells
+
+-- the W cells of page p as the picture holds them, and those of page 8 mod 2
+abbrev pub pageCells : ℕ → List ℕ → ℕ → List ℕ
+pageCells W wanted p = listed (λ c. getD wanted (W * p + c) 0) 0 W
+
+abbrev pub iconCells : ℕ → List ℕ → List ℕ
+iconCells W wanted = listed (λ c. getD wanted (W * 8 + c) 0 % 2) 0 W

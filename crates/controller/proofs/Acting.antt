@@ -1,11 +1,12 @@
 -- What a cycle does in a state in which the bus can be used: one law for every instruction byte, and one for a data write. Nothing
--- is refused before the byte is looked at, and such a state is left.
+-- is refused before the byte is looked at, and such a state is left. Status reads and pin cycles are carried out with the pin low too.
 -- Assumes nothing.
 use Prim.Native.Nat.{ℕ, _*_}
 use mathlib.Core.Path.{_≡_, _∙_, refl, ap, sym, subst}
-use mathlib.Core.Bool.{false}
+use mathlib.Core.Bool.{false, _||_}
 use mathlib.Core.List.{List}
 use lib.ListN.{length}
+use lib.Dec.{ltb, eqb}
 use borrow.Author.Tests.{eq-eqb}
 use Rattle.instructions.specs.Told.{given}
 use Rattle.instructions.specs.Numbers.{Sensible}
@@ -13,30 +14,51 @@ use Rattle.instructions.specs.Read.{readOf}
 use Rattle.instructions.specs.declared.numbers.Numbers.{Numbers}
 use Rattle.instructions.specs.declared.instruction.Instruction.{Instruction}
 use Rattle.instructions.proofs.Fits.{read-fits}
-use Rattle.registers.specs.Registers.{Ranged}
+use Rattle.registers.specs.Registers.{Ranged, outside}
 use Rattle.registers.specs.declared.Registers.{Registers}
 use Rattle.registers.proofs.InRange.{ranged, ranges}
 use Rattle.controller.specs.Execute.{executed}
 use Rattle.controller.specs.Memory.{stored}
-use Rattle.controller.specs.Cycle.{done, written, malformed, refusal, carried, kept, answer, memoryAfter}
+use Rattle.controller.specs.Cycle.{done, written, malformed, heldLow, refusal, carried, kept, answer, memoryAfter}
 use Rattle.controller.specs.Run.{BusCycle}
 use Rattle.controller.specs.State.{State, state, afterBy, step, number, Restartable}
-use Rattle.controller.proofs.Cells.{stored-length}
+use Rattle.controller.proofs.Cells.{both-false, stored-length}
 use Rattle.controller.proofs.Ranges.{executed-ranged, executed-pin, stays-ranged}
 
-module _ {k : Numbers} {s : State} (h : Restartable k s) where
-  -- no number before 4
-  pub clear : (kind value : ℕ) → malformed kind value ≡ false → refusal k (length (s .memory)) (s .registers) kind value ≡ 0
+-- ---- no number before 4
+
+module _ (k : Numbers) (s : State) (kind value : ℕ) where
+  passes : length (s .memory) ≡ 9 * k .width → outside k (s .registers) ≡ false → malformed kind value ≡ false → heldLow (s .registers) kind ≡ false
+      → refusal k (length (s .memory)) (s .registers) kind value ≡ 0
   unfolding refusal
-  clear kind value e = simp (eq-eqb (length (s .memory)) (9 * k .width) (h .long), h .ranged, e, h .high)
+  passes long ranged formed free = simp (eq-eqb (length (s .memory)) (9 * k .width) long, ranged, formed, free)
 
-  pub carries : (kind value : ℕ) → malformed kind value ≡ false → answer k (s .registers) (s .memory) kind value ≡ carried k (s .registers) (s .memory) kind value
-  unfolding answer
-  carries kind value e = rw (clear kind value e)
+  -- then the cycle is carried out
+  abbrev pub CarriedOut : Type 0
+  CarriedOut = (answer k (s .registers) (s .memory) kind value ≡ carried k (s .registers) (s .memory) kind value)
+      × (memoryAfter k (s .registers) (s .memory) kind value ≡ kept (k .width) (s .registers) (s .memory) kind value)
 
-  pub keeps : (kind value : ℕ) → malformed kind value ≡ false → memoryAfter k (s .registers) (s .memory) kind value ≡ kept (k .width) (s .registers) (s .memory) kind value
-  unfolding memoryAfter
-  keeps kind value e = rw (clear kind value e)
+  carried-out : refusal k (length (s .memory)) (s .registers) kind value ≡ 0 → CarriedOut
+  unfolding answer memoryAfter
+  carried-out e = (rw e, rw e)
+
+-- with the pin high, whatever is a cycle
+module _ {k : Numbers} {s : State} (h : Restartable k s) (kind value : ℕ) (e : malformed kind value ≡ false) where
+  clear : CarriedOut k s kind value
+  clear = carried-out k s kind value (passes k s kind value (h .long) (h .ranged) e (rw (h .high)))
+
+  pub carries : answer k (s .registers) (s .memory) kind value ≡ carried k (s .registers) (s .memory) kind value
+  carries = clear .0
+
+  pub keeps : memoryAfter k (s .registers) (s .memory) kind value ≡ kept (k .width) (s .registers) (s .memory) kind value
+  keeps = clear .1
+
+-- with the pin low or high, a kind that is not 0, 1 or 3
+pub unheld : (k : Numbers) (s : State) (kind : ℕ) → length (s .memory) ≡ 9 * k .width → outside k (s .registers) ≡ false → malformed kind 0 ≡ false
+    → ltb kind 2 || eqb kind 3 ≡ false → CarriedOut k s kind 0
+unheld k s kind long ranged formed free = carried-out k s kind 0 (passes k s kind 0 long ranged formed (rw free (both-false (s .registers .«pin_low»))))
+
+-- ---- what is done
 
 -- an answer that gives registers
 pub does : (k : Numbers) (s : State) (x : BusCycle) (r : Registers) (m : List ℕ) → answer k (s .registers) (s .memory) (x .0) (x .1) ≡ done r

@@ -60,7 +60,7 @@ pub is-cell : (w p c : ℕ) → p < 9 → c < w → isCell w p c ≡ true
 unfolding isCell
 is-cell w p c hp hc = simp (lt-ltb p 9 hp, lt-ltb c w hc)
 
-both-true : (a b : Bool) → a && b ≡ true → (a ≡ true) × (b ≡ true)
+pub both-true : (a b : Bool) → a && b ≡ true → (a ≡ true) × (b ≡ true)
 both-true true true e = (refl, refl)
 both-true true false e = absurd (subst T (sym e) tt)
 both-true false b e = absurd (subst T (sym e) tt)
@@ -70,7 +70,7 @@ pub cell-inside : (w p c : ℕ) → isCell w p c ≡ true → w * p + c < 9 * w
 unfolding isCell
 cell-inside w p c e = let f = both-true (ltb p 9) (ltb c w) e in place w p c (ltb-true p 9 (f .0)) (ltb-true c w (f .1))
 
-both-false : (a : Bool) → a && false ≡ false
+pub both-false : (a : Bool) → a && false ≡ false
 both-false true = refl
 both-false false = refl
 

@@ -4,6 +4,8 @@ pub mod Acting
 pub mod Chips
 pub mod Unique
 pub mod Numbered
+pub mod Sheet
 pub mod Readers
+pub mod Refusals
 pub mod ShutOuts
 pub mod Turning

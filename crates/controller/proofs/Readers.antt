@@ -4,15 +4,14 @@
 use Prim.Native.Nat.{ℕ, zero, suc, _+_, _*_, _/_, _%_, _≤_, _<_}
 use mathlib.Core.Path.{_≡_, _∙_, refl, ap, sym, subst}
 use mathlib.Core.Logic.{_≢_, _⊎_, inl, inr}
-use mathlib.Core.Bool.{Bool, true, false, cond, _&&_}
+use mathlib.Core.Bool.{Bool, true, false, cond}
 use mathlib.Core.Option.{Option, none, some}
 use mathlib.Core.List.{List, [], _∷_, _++_, map}
 use native.Mathlib.Omega.{arith}
 use native.Mathlib.Numerals.{add-one}
 use lib.ListN.{length}
 use lib.Dec.{eqb}
-use borrow.Author.Tests.{eq-eqb, eqb-true}
-use Rattle.instructions.specs.Refusal.{pinLow}
+use borrow.Author.Tests.{eqb-true}
 use Rattle.instructions.specs.Numbers.{Sensible}
 use Rattle.instructions.specs.Read.{readOf}
 use Rattle.instructions.specs.declared.numbers.Numbers.{Numbers}
@@ -37,6 +36,7 @@ use Rattle.controller.proofs.Cells.{past-columns, stored-none, advanced
 use Rattle.controller.proofs.Ranges.{stays-ranged}
 use Rattle.controller.proofs.Acting.{carries, keeps, writes}
 use Rattle.controller.proofs.Chips.{obeys, still, written-ready}
+use Rattle.controller.proofs.Sheet.{pin-low-starts, pin-high-raises}
 
 -- ---- what changes nothing
 
@@ -124,7 +124,7 @@ read-keeps k s value =
     either (λ (o : Outcome). Left (s .registers) (afterBy (s .registers) (o .registers))) (eqb (refusal k (length (s .memory)) (s .registers) 3 value) 0)
     (read-leaves (k .width) (s .registers) (s .registers .«modify_read») _) (left-all (s .registers))
 
--- ---- the column never runs on into another page: behind the last column a data write stores nothing and stays where it is
+-- ---- the column never runs on into another page: behind the last column a data write stores nothing, and the column stays where it is
 
 module _ (k : Numbers) (g : Sensible k) (s : State) (h : Restartable k s) where
   pub locked-stores-nothing : (b : ℕ) → k .width ≤ s .registers .column .0 → step k s (1, b) .memory ≡ s .memory
@@ -135,6 +135,25 @@ module _ (k : Numbers) (g : Sensible k) (s : State) (h : Restartable k s) where
   pub locked-stays : (b : ℕ) → k .width ≤ s .registers .column .0 → step k s (1, b) .registers .column .0 ≡ s .registers .column .0
   unfolding written
   locked-stays b l = ap (λ t. t .registers .column .0) (writes k g s b h .1) ∙ advanced-locked (k .width) (s .registers .column .0) l
+
+  -- the column after a data read
+  after-read : step k s (3, 0) .registers .column
+      ≡ afterRead (k .width) (s .registers) (s .registers .«modify_read») (loaded (k .width) (s .memory) (s .registers .page) (s .registers .column .0)) .column
+  unfolding carried
+  after-read = ap (λ o. afterBy (s .registers) (o .registers) .column) (carries h 3 0 refl)
+
+  read-locked : (r : Registers) (m : ModifyRead) (b : ℕ) → k .width ≤ r .column .0 → afterRead (k .width) r m b .column .0 ≡ r .column .0
+  unfolding written
+  read-locked r Off b l = advanced-locked (k .width) (r .column .0) l
+  read-locked r (On c) b l = refl
+
+  -- a data read leaves it there too, modify-read off or on
+  pub locked-read-stays : k .width ≤ s .registers .column .0 → step k s (3, 0) .registers .column .0 ≡ s .registers .column .0
+  locked-read-stays l = ap (λ c. c .0) after-read ∙ read-locked (s .registers) (s .registers .«modify_read») _ l
+
+  -- and wherever it stands where modify-read is on
+  pub modify-read-stays : (c : Column) → s .registers .«modify_read» ≡ On c → step k s (3, 0) .registers .column ≡ s .registers .column
+  modify-read-stays c e = after-read ∙ rw e refl
 
 -- ---- E0, any writes, EE: the column is what it was
 
@@ -216,23 +235,10 @@ module _ (k : Numbers) (g : Sensible k) where
 
 -- ---- the pin: from any registers in range, low then high leaves power-up's registers but for the holder, and the memory
 
-idle : (b : Bool) → cond (b && false) pinLow 0 ≡ 0
-idle true = refl
-idle false = refl
-
-module _ (k : Numbers) (g : Sensible k) where
-  -- a pin cycle is refused for size and range alone
-  pin-clear : (s : State) (kind : ℕ) → length (s .memory) ≡ 9 * k .width → outside k (s .registers) ≡ false → (kind ≡ 4) ⊎ (kind ≡ 5)
-      → refusal k (length (s .memory)) (s .registers) kind 0 ≡ 0
-  unfolding refusal
-  pin-clear s kind long e (inl q) = rw q (simp (eq-eqb (length (s .memory)) (9 * k .width) long, e) (idle (s .registers .«pin_low»)))
-  pin-clear s kind long e (inr q) = rw q (simp (eq-eqb (length (s .memory)) (9 * k .width) long, e) (idle (s .registers .«pin_low»)))
-
-  pub pin-resets : (s : State) → length (s .memory) ≡ 9 * k .width → outside k (s .registers) ≡ false
-      → run k s ((4, 0) ∷ (5, 0) ∷ []) ≡ state (withHolder (withPinLow (start k 0 true) false) (s .registers .holder)) (s .memory)
-  unfolding answer memoryAfter carried kept
-  pin-resets s long e =
-      let low = state (start k (s .registers .holder) true) (s .memory) in
-      let f : step k s (4, 0) ≡ low = rw (pin-clear s 4 long e (inl refl)) refl in
-      let u : outside k (low .registers) ≡ false = ap (λ t. outside k (t .registers)) (sym f) ∙ ranged k (step k s (4, 0) .registers) (stays-ranged k g (s .registers) (s .memory) 4 0 (ranges k (s .registers) e)) in
-      ap (λ t. step k t (5, 0)) f ∙ rw (pin-clear low 5 long u (inr refl)) refl
+pub pin-resets : (k : Numbers) → Sensible k → (s : State) → length (s .memory) ≡ 9 * k .width → outside k (s .registers) ≡ false
+    → run k s ((4, 0) ∷ (5, 0) ∷ []) ≡ state (withHolder (withPinLow (start k 0 true) false) (s .registers .holder)) (s .memory)
+pin-resets k g s long e =
+    let low = state (start k (s .registers .holder) true) (s .memory) in
+    let f : step k s (4, 0) ≡ low = pin-low-starts k s long e .1 in
+    let u : outside k (low .registers) ≡ false = ap (λ t. outside k (t .registers)) (sym f) ∙ ranged k (step k s (4, 0) .registers) (stays-ranged k g (s .registers) (s .memory) 4 0 (ranges k (s .registers) e)) in
+    ap (λ t. step k t (5, 0)) f ∙ pin-high-raises k low long u .1

@@ -12,16 +12,15 @@ use Rattle.instructions.specs.Numbers.{numbers0713}
 use Rattle.registers.specs.Registers.{outside, withAdc, start}
 use Rattle.registers.specs.declared.Registers.{Registers}
 use Rattle.registers.proofs.InRange.{ranged}
-use Rattle.controller.specs.Cycle.{outcome, status, carried, Cycled}
+use Rattle.controller.specs.Cycle.{outcome, status, Cycled}
 use Rattle.controller.specs.State.{state, Restartable}
 use Rattle.controller.specs.declared.cycle.Answer.{Answer}
-use Rattle.controller.proofs.Acting.{carries}
+use Rattle.controller.proofs.Sheet.{status-answered}
 
 -- a status read of a usable chip answers the status byte of its registers
 pub status-told : (r : Registers) (m : List ℕ) (a : Answer) (left : List ℕ) → Restartable numbers0713 (state r m) → Cycled numbers0713 r m 2 0 a left
     → outcome a .byte ≡ some (status r)
-unfolding carried
-status-told r m a left h f = ap (λ o. o .byte) (f .tells ∙ carries h 2 0 refl)
+status-told r m a left h f = ap (λ o. o .byte) (f .tells ∙ status-answered numbers0713 (state r m) (h .long) (h .ranged))
 
 usable : (r : Registers) (m : List ℕ) → length m ≡ 1188 → outside numbers0713 r ≡ false → r .«pin_low» ≡ false → Restartable numbers0713 (state r m)
 usable r m long e high = record { long = long; ranged = e; high = high }

@@ -18,7 +18,6 @@ use instructions::refusal::OUT_OF_RANGE;
 use instructions::refusal::PIN_LOW;
 use instructions::refusal::WRONG_CYCLE;
 use instructions::refusal::WRONG_SIZE;
-use registers::Column;
 use registers::ModifyRead;
 use registers::Registers;
 use registers::outside_range;
@@ -52,7 +51,7 @@ fn after_write(width: usize, registers: Registers, byte: u8) -> Registers
     requires { ⌜ width ≤ 255 ⌝ }
     ensures { λ n. ⌜ n ≡ written width registers byte ⌝ }
 {
-    let column = Column(advance(width, registers.column.0));
+    let column = advance(width, registers.column);
     with_holder(with_column(registers, column), byte)
 }
 
@@ -119,20 +118,14 @@ fn carry_out(chip: Numbers, registers: Registers, memory: &mut [u8], kind: u8, v
         return instruct(chip, registers, value);
     }
     if kind == 1 {
-        store(
-            width,
-            &mut *memory,
-            registers.page,
-            registers.column.0,
-            value,
-        );
+        store(width, &mut *memory, registers.page, registers.column, value);
         return Answer::Done(after_write(width, registers, value));
     }
     if kind == 2 {
         return Answer::Status(status_of(registers));
     }
     if kind == 3 {
-        let byte = load(width, &*memory, registers.page, registers.column.0);
+        let byte = load(width, &*memory, registers.page, registers.column);
         let mode = registers.modify_read;
         return Answer::Read(after_read(width, registers, mode, byte), registers.holder);
     }

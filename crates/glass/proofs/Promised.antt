@@ -19,7 +19,7 @@ use Rattle.registers.specs.Registers.{outside}
 use Rattle.registers.specs.declared.Registers.{Registers}
 use Rattle.glass.specs.Frame.{frameOf, refusal, toldShown, IsShown}
 use Rattle.glass.specs.Power.{powerOf, toldPower, IsPower}
-use Rattle.glass.specs.Voltage.{numerator, toldVoltage, IsVoltage}
+use Rattle.glass.specs.Voltage.{Fraction, v0Of, toldVoltage, IsVoltage}
 use Rattle.glass.specs.declared.frame.Shown.{Shown}
 use Rattle.glass.specs.declared.frame.Shown.the-variants as shown
 use Rattle.glass.specs.declared.power.Powered.{Powered}
@@ -27,10 +27,8 @@ use Rattle.glass.specs.declared.power.Powered.the-variants as powered
 use Rattle.glass.specs.declared.voltage.Voltage.{Voltage}
 use Rattle.glass.specs.declared.voltage.Voltage.the-variants as voltage
 use Rattle.instructions.proofs.Either.{either, or-true}
+use Rattle.instructions.proofs.Exactly.{Exactly}
 use Rattle.glass.proofs.Places.{right-sizes}
-
-abbrev pub Exactly : Type 0 → Type 0 → Type 0
-Exactly A B = (A → B) × (B → A)
 
 -- ---- an answer that is refused with one number where a test holds, and else given
 
@@ -77,12 +75,16 @@ module _ {c : Numbers} {r : Registers} where
 
 -- ---- V0
 
-voltage-back : (a : Voltage) → answerOf voltage.Fifteenths voltage.Refused (toldVoltage a) ≡ a
+-- the numerator tells how many fifteenths
+abbrev fifteenths : Fraction → Voltage
+fifteenths f = voltage.Fifteenths (f .numerator)
+
+voltage-back : (a : Voltage) → answerOf fifteenths voltage.Refused (toldVoltage a) ≡ a
 voltage-back (voltage.Fifteenths v) = refl
 voltage-back (voltage.Refused n) = refl
 
 voltage-told : (a b : Voltage) → toldVoltage a ≡ toldVoltage b → a ≡ b
-voltage-told = apart toldVoltage (answerOf voltage.Fifteenths voltage.Refused) voltage-back
+voltage-told = apart toldVoltage (answerOf fifteenths voltage.Refused) voltage-back
 
 module _ {k v : ℕ} where
   pub voltage-one : {a b : Voltage} → IsVoltage k v a → IsVoltage k v b → a ≡ b
@@ -91,7 +93,7 @@ module _ {k v : ℕ} where
   -- no number but 2, and 2 exactly if resistor or contrast is outside its range
   pub voltage-number : {n : ℕ} → IsVoltage k v (voltage.Refused n) → (n ≡ outOfRange) × ((7 < k) ⊎ (63 < v))
   voltage-number {n} f =
-      let p = only (ltb 7 k || ltb 63 v) outOfRange n (numerator k v) (f .tells) in
+      let p = only (ltb 7 k || ltb 63 v) outOfRange n (v0Of k v) (f .tells) in
       (p .0, beyond (either (ltb 7 k) (ltb 63 v) (p .1)))
     where
       beyond : (ltb 7 k ≡ true) ⊎ (ltb 63 v ≡ true) → (7 < k) ⊎ (63 < v)
@@ -221,3 +223,7 @@ module _ {c : Numbers} {r : Registers} {m frame : List ℕ} where
   shown-left {n} f =
       let k = refusal c r (length m) (length frame) in
       rw (is-refused (eqb k 0) n k tt (f .tells)) at (f .leaves)
+
+  -- a refusal alters nothing, and no refusal is 0
+  pub shown-alters-nothing : {n : ℕ} {l : List ℕ} → IsShown c r m frame (shown.Refused n) l → (n ≢ 0) × (l ≡ frame)
+  shown-alters-nothing {l = l} f = (λ e. shown-not-0 (subst (λ (x : ℕ). IsShown c r m frame (shown.Refused x) l) e f), shown-left f)

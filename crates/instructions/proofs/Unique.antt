@@ -1,14 +1,16 @@
 -- What reader and writer promise fixes their answers: what is told of an answer tells all answers apart, since it has an inverse.
 -- And each number is given exactly when its line of document 01's table holds.
 -- Assumes nothing.
-use Prim.Native.Nat.{ℕ, _+_, _<_}
+use Prim.Native.Nat.{ℕ, _+_, _≤_, _<_}
 use mathlib.Core.Path.{_≡_, _∙_, refl, ap, sym, subst}
+use mathlib.Core.Logic.{_⊎_, inl, inr}
 use mathlib.Core.Bool.{Bool, true, false, cond, not, _&&_}
 use mathlib.Core.Option.{Option, none, some}
-use lib.Dec.{T, ltb, eqb, eqb→eq}
+use native.Mathlib.Omega.{arith}
+use lib.Dec.{T, eqb, eqb→eq}
 use Rattle.instructions.specs.Refusal.{unassigned, outsideField}
-use Rattle.instructions.specs.Told.{given, refused}
-use Rattle.instructions.specs.Write.{fieldOf, flagOf, writeOf, toldWriting, IsWritten}
+use Rattle.instructions.specs.Told.{Told, given, refused}
+use Rattle.instructions.specs.Write.{fieldOf, flagOf, writeOf, OutsideField, toldWriting, IsWritten}
 use Rattle.instructions.specs.Read.{classOf, readBy, readFirst, readOf, toldReading, assigned, IsRead}
 use Rattle.instructions.specs.declared.numbers.Numbers.{Numbers}
 use Rattle.instructions.specs.declared.instruction.Awaited.{Awaited}
@@ -19,6 +21,9 @@ use Rattle.instructions.specs.declared.read.Reading.{Reading}
 use Rattle.instructions.specs.declared.read.Reading.the-variants.{ReadAs, Unread}
 use Rattle.instructions.specs.declared.write.Writing.{Writing}
 use Rattle.instructions.specs.declared.write.Writing.the-variants.{WrittenAs, Unwritten}
+use Rattle.instructions.proofs.Cases.{less}
+use Rattle.instructions.proofs.Exactly.{Exactly, then}
+use Rattle.instructions.proofs.Fields.{field-given, field-refused}
 use Rattle.instructions.proofs.Every.{at, left, right}
 use Rattle.instructions.proofs.Pinned.{whole}
 use Rattle.instructions.proofs.Telling.{apart, answerOf, refused-one, not-given, told-is}
@@ -39,9 +44,13 @@ writing-back : (w : Writing) → answerOf WrittenAs Unwritten (toldWriting w) �
 writing-back (WrittenAs b) = refl
 writing-back (Unwritten n) = refl
 
+-- answers that are told alike are equal
+written-told : (w v : Writing) → toldWriting w ≡ toldWriting v → w ≡ v
+written-told = apart toldWriting (answerOf WrittenAs Unwritten) writing-back
+
 -- two writings that the promise admits are equal
 pub written-one : {k : Numbers} {i : Instruction} {w v : Writing} → IsWritten k i w → IsWritten k i v → w ≡ v
-written-one {w = w} {v = v} f g = apart toldWriting (answerOf WrittenAs Unwritten) writing-back w v (f .tells ∙ sym (g .tells))
+written-one {w = w} {v = v} f g = written-told w v (f .tells ∙ sym (g .tells))
 
 -- ---- number 4: an instruction byte unassigned and nothing awaited, and only then
 
@@ -80,6 +89,9 @@ module _ (k : Numbers) (b : ℕ) (h : b < 256) where
   unread-4 awaited.Contrast n f = absurd (not-given (f .tells))
   unread-4 awaited.Indicator n f = absurd (not-given (f .tells))
 
+  pub unread-not-0 : (a : Awaited) → IsRead k a b (Unread 0) → ⊥
+  unread-not-0 a f = omega (arith, unread-4 a 0 f .0)
+
   by-value : assigned b ≡ false → (x : Option Instruction) → readOf k awaited.Nothing b .value ≡ x → readOf k awaited.Nothing b ≡ refused unassigned
   by-value e none f = told-is (readFirst k b) (read-none f .1) f
   by-value e (some i) f = absurd (subst T (sym (read-some i f) ∙ e) tt)
@@ -89,41 +101,82 @@ module _ (k : Numbers) (b : ℕ) (h : b < 256) where
 
 -- ---- number 6: a value to write outside its field, and only then
 
-in-or-6 : (t : Bool) (x n : ℕ) → refused n ≡ cond t (given x) (refused outsideField) → n ≡ outsideField
-in-or-6 true x n e = absurd (not-given e)
-in-or-6 false x n e = refused-one e
+-- a byte is given, and the value is not outside its field
+record Byte (Outside : Type 0) (t : Told ℕ) : Type 0 where
+  byte : ℕ
+  is : t ≡ given byte
+  inside : Outside → ⊥
 
-field-not : (base count v n : ℕ) → refused n ≡ fieldOf base count v → n ≡ outsideField
-unfolding fieldOf
-field-not base count v n e = in-or-6 (ltb v count) (base + v) n e
+-- what is told of a value: 6, and it is outside its field, or a byte
+abbrev Six : Type 0 → Told ℕ → Type 0
+Six Outside t = ((t ≡ refused outsideField) × Outside) ⊎ Byte Outside t
 
-flag-not : (off on : ℕ) (f : Bool) (n : ℕ) → refused n ≡ flagOf off on f → n ≡ outsideField
+-- a field, a single byte, a flag
+field-so : (base count v : ℕ) → Six (count ≤ v) (fieldOf base count v)
+field-so base count v = less v count
+    (λ h. inr (record { byte = base + v; is = field-given base count v h; inside = λ l. omega arith }))
+    (λ h. inl (field-refused base count v h, h))
+
+byte-so : (b : ℕ) → Six ⊥ (given b)
+byte-so b = inr (record { byte = b; is = refl; inside = λ x. x })
+
+flag-so : (off on : ℕ) (f : Bool) → Six ⊥ (flagOf off on f)
 unfolding flagOf
-flag-not off on true n e = absurd (not-given e)
-flag-not off on false n e = absurd (not-given e)
+flag-so off on true = byte-so on
+flag-so off on false = byte-so off
 
-refused-6 : (k : Numbers) (i : Instruction) (n : ℕ) → refused n ≡ writeOf k i → n ≡ outsideField
-refused-6 k (ColumnLow v) n e = field-not 0x00 16 v n e
-refused-6 k (ColumnHigh v) n e = field-not 0x10 (k .highs) v n e
-refused-6 k (Resistor v) n e = field-not 0x20 8 v n e
-refused-6 k (Power v) n e = field-not 0x28 8 v n e
-refused-6 k (StartLine v) n e = field-not 0x40 64 v n e
-refused-6 k ContrastNext n e = absurd (not-given e)
-refused-6 k (ContrastValue v) n e = field-not 0x00 64 v n e
-refused-6 k (Adc f) n e = flag-not 0xa0 0xa1 f n e
-refused-6 k (Bias f) n e = flag-not 0xa2 0xa3 f n e
-refused-6 k (Entire f) n e = flag-not 0xa4 0xa5 f n e
-refused-6 k (Reverse f) n e = flag-not 0xa6 0xa7 f n e
-refused-6 k IndicatorOff n e = absurd (not-given e)
-refused-6 k IndicatorOn n e = absurd (not-given e)
-refused-6 k (IndicatorValue v) n e = field-not 0x00 4 v n e
-refused-6 k (Display f) n e = flag-not 0xae 0xaf f n e
-refused-6 k (Page v) n e = field-not 0xb0 16 v n e
-refused-6 k (Shl f) n e = flag-not 0xc0 0xc8 f n e
-refused-6 k ModifyReadOn n e = absurd (not-given e)
-refused-6 k ModifyReadOff n e = absurd (not-given e)
-refused-6 k Reset n e = absurd (not-given e)
-refused-6 k Nop n e = absurd (not-given e)
+-- the table, row by row
+written-so : (k : Numbers) (i : Instruction) → Six (OutsideField k i) (writeOf k i)
+written-so k (ColumnLow v) = field-so 0x00 16 v
+written-so k (ColumnHigh v) = field-so 0x10 (k .highs) v
+written-so k (Resistor v) = field-so 0x20 8 v
+written-so k (Power v) = field-so 0x28 8 v
+written-so k (StartLine v) = field-so 0x40 64 v
+written-so k ContrastNext = byte-so 0x81
+written-so k (ContrastValue v) = field-so 0x00 64 v
+written-so k (Adc f) = flag-so 0xa0 0xa1 f
+written-so k (Bias f) = flag-so 0xa2 0xa3 f
+written-so k (Entire f) = flag-so 0xa4 0xa5 f
+written-so k (Reverse f) = flag-so 0xa6 0xa7 f
+written-so k IndicatorOff = byte-so 0xac
+written-so k IndicatorOn = byte-so 0xad
+written-so k (IndicatorValue v) = field-so 0x00 4 v
+written-so k (Display f) = flag-so 0xae 0xaf f
+written-so k (Page v) = field-so 0xb0 16 v
+written-so k (Shl f) = flag-so 0xc0 0xc8 f
+written-so k ModifyReadOn = byte-so 0xe0
+written-so k ModifyReadOff = byte-so 0xee
+written-so k Reset = byte-so 0xe2
+written-so k Nop = byte-so 0xe3
 
-pub unwritten-6 : (k : Numbers) (i : Instruction) (n : ℕ) → IsWritten k i (Unwritten n) → n ≡ outsideField
-unwritten-6 k i n f = refused-6 k i n (f .tells)
+-- so 6 is told exactly if the value is outside, it is the number exactly then, and no other number is told
+module _ {Outside : Type 0} {t : Told ℕ} where
+  is-6 : Six Outside t → Exactly (t ≡ refused outsideField) Outside
+  is-6 (inl p) = (λ e. p .1, λ o. p .0)
+  is-6 (inr g) = (λ e. absurd (not-given (sym e ∙ g .is)), λ o. absurd (g .inside o))
+
+  number-6 : Six Outside t → Exactly (t .number ≡ outsideField) Outside
+  number-6 (inl p) = (λ e. p .1, λ o. ap (λ x. x .number) (p .0))
+  number-6 (inr g) = (λ e. absurd (let z : 0 ≡ 6 = sym (ap (λ x. x .number) (g .is)) ∙ e in omega arith), λ o. absurd (g .inside o))
+
+  only-6 : Six Outside t → {n : ℕ} → refused n ≡ t → n ≡ outsideField
+  only-6 (inl p) e = refused-one (e ∙ p .0)
+  only-6 (inr g) e = absurd (not-given (e ∙ g .is))
+
+module _ (k : Numbers) (i : Instruction) where
+  -- the number that is told is 6 exactly if the value is outside its field
+  pub number-written-6 : Exactly (writeOf k i .number ≡ outsideField) (OutsideField k i)
+  number-written-6 = number-6 (written-so k i)
+
+  -- and so it is with an answer of the writer
+  pub written-6 : {a : Writing} → IsWritten k i a → Exactly (a ≡ Unwritten outsideField) (OutsideField k i)
+  written-6 {a} f =
+      then (λ e. sym (f .tells) ∙ ap toldWriting e, λ e. written-told a (Unwritten outsideField) (f .tells ∙ e))
+      (is-6 (written-so k i))
+
+  -- no number but 6
+  pub unwritten-6 : (n : ℕ) → IsWritten k i (Unwritten n) → n ≡ outsideField
+  unwritten-6 n f = only-6 (written-so k i) (f .tells)
+
+  pub unwritten-not-0 : IsWritten k i (Unwritten 0) → ⊥
+  unwritten-not-0 f = omega (arith, unwritten-6 0 f)

@@ -1,6 +1,6 @@
 -- What an instruction is written as: document 01's table, row by row.
 -- Assumes nothing.
-use Prim.Native.Nat.{ℕ, _+_}
+use Prim.Native.Nat.{ℕ, _+_, _≤_}
 use mathlib.Core.Path.{_≡_}
 use mathlib.Core.Bool.{Bool, cond}
 use lib.Dec.{ltb}
@@ -43,6 +43,31 @@ writeOf k ModifyReadOn = given 0xe0
 writeOf k ModifyReadOff = given 0xee
 writeOf k Reset = given 0xe2
 writeOf k Nop = given 0xe3
+
+-- a value to write is outside its field, row by row, by how many values the field has: for the high four bits of column as many as
+-- the counter has room for. A flag and an instruction without a value never are
+abbrev pub OutsideField : Numbers → Instruction → Type 0
+OutsideField k (ColumnLow v) = 16 ≤ v
+OutsideField k (ColumnHigh v) = k .highs ≤ v
+OutsideField k (Resistor v) = 8 ≤ v
+OutsideField k (Power v) = 8 ≤ v
+OutsideField k (StartLine v) = 64 ≤ v
+OutsideField k ContrastNext = ⊥
+OutsideField k (ContrastValue v) = 64 ≤ v
+OutsideField k (Adc f) = ⊥
+OutsideField k (Bias f) = ⊥
+OutsideField k (Entire f) = ⊥
+OutsideField k (Reverse f) = ⊥
+OutsideField k IndicatorOff = ⊥
+OutsideField k IndicatorOn = ⊥
+OutsideField k (IndicatorValue v) = 4 ≤ v
+OutsideField k (Display f) = ⊥
+OutsideField k (Page v) = 16 ≤ v
+OutsideField k (Shl f) = ⊥
+OutsideField k ModifyReadOn = ⊥
+OutsideField k ModifyReadOff = ⊥
+OutsideField k Reset = ⊥
+OutsideField k Nop = ⊥
 
 -- an answer as the paper tells it
 abbrev pub toldWriting : Writing → Told ℕ

@@ -34,7 +34,7 @@ use Rattle.controller.proofs.Ranges.{stays-ranged}
 use Rattle.controller.proofs.Unique.{cycled-one, number-exactly}
 use Rattle.glass.specs.Frame.{toldShown, refusal}
 use Rattle.glass.specs.Power.{toldPower}
-use Rattle.glass.specs.Voltage.{toldVoltage, numerator}
+use Rattle.glass.specs.Voltage.{toldVoltage, v0Of}
 use Rattle.glass.proofs.Promised.{power-one, voltage-one, shown-one}
 use Rattle.streams.specs.Length.{updateLength}
 use Rattle.instructions.proofs.Cases.{split, less}
@@ -161,7 +161,7 @@ module _ (resistor contrast before : ℕ) where
 
   module _ {a r : ℕ} (f : VoltageOut resistor contrast before a r) where
     pub v0-number : r ≡ cond (ltb 7 resistor || ltb 63 contrast) outOfRange 0
-    v0-number = f .answers .number ∙ ap (λ o. o .number) (f .promised .tells) ∙ test-number (ltb 7 resistor || ltb 63 contrast) outOfRange (numerator resistor contrast)
+    v0-number = f .answers .number ∙ ap (λ o. o .number) (f .promised .tells) ∙ test-number (ltb 7 resistor || ltb 63 contrast) outOfRange (v0Of resistor contrast)
 
     pub v0-0 : Exactly (r ≡ 0) ((resistor ≤ 7) × (contrast ≤ 63))
     v0-0 =

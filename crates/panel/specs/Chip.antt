@@ -80,4 +80,4 @@ PowerOut state answer answer′ r = Through (PoweredOn state) toldPower powerByt
 
 -- V0's numerator over 15: refused with 2
 abbrev pub VoltageOut : ℕ → ℕ → ℕ → ℕ → ℕ → Type 0
-VoltageOut resistor contrast numerator numerator′ r = Through (IsVoltage resistor contrast) toldVoltage same numerator numerator′ r
+VoltageOut resistor contrast numerator numerator′ r = Through (IsVoltage resistor contrast) toldVoltage (λ f. f .numerator) numerator numerator′ r

@@ -11,6 +11,7 @@ unfolding advanced
 advance-spec =
     tie.close
     (tie.spec
+    (λ c. search needs)
     (λ c. search tests)
     (λ c. search needs)
     (λ c. search tests))

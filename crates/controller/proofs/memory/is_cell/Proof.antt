@@ -1,6 +1,7 @@
 -- `controller::memory::is_cell` meets its contract.
 -- Assumes nothing.
 use mathlib.Core.Path.{refl}
+use borrow.Author.Needs.{needs}
 use Rattle.controller.specs.Memory.{isCell}
 use Rattle.controller.proofs.memory.is_cell.Statement.{statement}
 use Rattle.controller.proofs.memory.is_cell.Tie as tie
@@ -10,4 +11,5 @@ unfolding isCell
 is-cell-spec =
     tie.close
     (tie.spec
+    (λ c. search needs)
     (λ c. refl))

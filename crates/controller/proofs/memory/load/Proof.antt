@@ -15,8 +15,9 @@ load-spec =
     (tie.spec
     (λ c κs. search needs)
     (λ c. omega (arith, cell-inside _ _ _ (sym (c .before .is-cell .ensures) ∙ c .if1 .taken)))
-    (λ c. omega (arith, cell-inside _ _ _ (sym (c .before .is-cell .ensures) ∙ c .if1 .taken)))
+    (λ c. search needs)
     (λ c. omega (arith, cell-inside _ _ _ (sym (c .before .before .is-cell .ensures) ∙ c .before .if1 .taken)))
+    (λ c. omega (arith, cell-inside _ _ _ (sym (c .before .before .before .is-cell .ensures) ∙ c .before .before .if1 .taken)))
     (λ c κs. search needs)
-    (λ c. rw (← c .before .before .before .is-cell .ensures, c .before .before .if1 .taken, c .cell .ensures))
+    (λ c. rw (← c .before .before .before .before .is-cell .ensures, c .before .before .before .if1 .taken, c .cell .ensures))
     (λ c. rw (← c .before .is-cell .ensures, c .if1 .left)))

@@ -16,9 +16,9 @@ use Rattle.controller.proofs.Numbered.{numbered}
 use Rattle.controller.proofs.Readers.{refused-nothing}
 
 -- a refusal alters nothing, and no refusal is 0
-pub refused-alters-nothing : (k : Numbers) → Sensible k → {r : Registers} {m : List ℕ} {kind value n : ℕ} {left : List ℕ}
+pub cycled-refused-leaves : (k : Numbers) → Sensible k → {r : Registers} {m : List ℕ} {kind value n : ℕ} {left : List ℕ}
     → Cycled k r m kind value (Refused n) left → (n ≢ 0) × (left ≡ m)
-refused-alters-nothing k g {r} {m} {kind} {value} {n} f =
+cycled-refused-leaves k g {r} {m} {kind} {value} {n} f =
     let e : n ≡ number k (state r m) (kind, value) = ap (λ o. o .number) (f .tells) in
     let l : 1 ≤ number k (state r m) (kind, value) = numbered k g r m kind value .some-number (sym (ap (λ o. o .byte) (f .tells))) (sym (ap (λ o. o .registers) (f .tells))) in (
       λ z. omega arith,

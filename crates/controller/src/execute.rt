@@ -52,13 +52,14 @@ fn restore(registers: Registers, mode: ModifyRead) -> Registers
 fn reset_four(registers: Registers) -> Registers
     ensures { λ n. ⌜ n ≡ reset registers ⌝ }
 {
-    let mut next = registers;
     let column = Column(0);
-    next.start_line = 0;
-    next.column = column;
-    next.page = 0;
-    next.shl = false;
-    next
+    Registers {
+        start_line: 0,
+        column,
+        page: 0,
+        shl: false,
+        ..registers
+    }
 }
 
 // The low and the high four bits of the column, the other four as they stand.

@@ -225,5 +225,5 @@ module _ {c : Numbers} {r : Registers} {m frame : List ℕ} where
       rw (is-refused (eqb k 0) n k tt (f .tells)) at (f .leaves)
 
   -- a refusal alters nothing, and no refusal is 0
-  pub shown-alters-nothing : {n : ℕ} {l : List ℕ} → IsShown c r m frame (shown.Refused n) l → (n ≢ 0) × (l ≡ frame)
-  shown-alters-nothing {l = l} f = (λ e. shown-not-0 (subst (λ (x : ℕ). IsShown c r m frame (shown.Refused x) l) e f), shown-left f)
+  pub shown-refused-leaves : {n : ℕ} {l : List ℕ} → IsShown c r m frame (shown.Refused n) l → (n ≢ 0) × (l ≡ frame)
+  shown-refused-leaves {l = l} f = (λ e. shown-not-0 (subst (λ (x : ℕ). IsShown c r m frame (shown.Refused x) l) e f), shown-left f)

@@ -1,3 +1,4 @@
 pub mod Sizes
 pub mod Numbering
 pub mod Promised
+pub mod Refusing

@@ -4,30 +4,30 @@
 use Prim.Native.Nat.{ℕ, _≤_, _<_}
 use mathlib.Core.Path.{_≡_, _∙_, refl, ap, sym, subst}
 use mathlib.Core.Logic.{_≢_, inl, inr, ⊎-elim}
-use mathlib.Core.Bool.{Bool, true, false, cond, not, _&&_, _||_}
+use mathlib.Core.Bool.{Bool, false, cond, not, _&&_, _||_}
 use mathlib.Core.Option.{Option, none, some}
 use mathlib.Core.List.{List}
 use native.Mathlib.Omega.{arith}
 use lib.ListN.{length}
-use lib.Dec.{T, ltb, eqb}
-use borrow.Author.Tests.{ltb-false, le-ltb, eqb-true}
+use lib.Dec.{T, ltb}
+use borrow.Author.Tests.{ltb-false, le-ltb}
 use Rattle.instructions.specs.Refusal.{wrongSize, outOfRange, outsideField}
-use Rattle.instructions.specs.Told.{Told, given, refused}
+use Rattle.instructions.specs.Told.{refused}
 use Rattle.instructions.specs.Numbers.{numbers0713}
 use Rattle.instructions.specs.Read.{toldReading, assigned, nothingAwaited, IsRead}
-use Rattle.instructions.specs.Write.{toldWriting}
+use Rattle.instructions.specs.Write.{toldWriting, OutsideField}
 use Rattle.instructions.specs.declared.instruction.Awaited.{Awaited}
 use Rattle.instructions.specs.declared.instruction.Awaited.the-variants as awaited
 use Rattle.instructions.specs.declared.instruction.Instruction.{Instruction}
 use Rattle.instructions.specs.declared.read.Reading.{Reading}
 use Rattle.instructions.specs.declared.read.Reading.the-variants as reading
 use Rattle.instructions.specs.declared.write.Writing.{Writing}
-use Rattle.instructions.proofs.Unique.{read-one, written-one, read-some, unread-4}
+use Rattle.instructions.proofs.Unique.{read-one, written-one, read-some, unread-4, number-written-6}
 use Rattle.instructions.proofs.Sensible.{sensible0713}
 use Rattle.instructions.proofs.Fits.{Fits}
 use Rattle.registers.specs.Registers.{outside}
 use Rattle.registers.specs.declared.Registers.{Registers}
-use Rattle.registers.proofs.InRange.{ranged, ranges, powered-one}
+use Rattle.registers.proofs.InRange.{ranged, ranges, powered-one, powered-ranged}
 use Rattle.controller.specs.State.{afterBy}
 use Rattle.controller.specs.Cycle.{outcome, cycleNumber}
 use Rattle.controller.proofs.Ranges.{stays-ranged}
@@ -56,26 +56,12 @@ use Rattle.state.specs.Unfit.{unfit, unfitNumber}
 use Rattle.panel.specs.Chip.{PowerUpOut, CycleOut, FrameOut, PowerOut, VoltageOut}
 use Rattle.panel.specs.Bytes.{named, WrittenIf, ReadOut, WriteOut}
 use Rattle.panel.specs.Pictures.{FirstOut, LengthOut, UpdateOut, RedrawOut}
-use Rattle.state.proofs.Packing.{registers-again, packed-fit}
+use Rattle.state.proofs.Accepting.{Accepted, packed-accepted, accepted-left}
 
 -- ---- numbers
 
 unfit-some : (wrong : Bool) → unfitNumber wrong ≢ 0
 unfit-some wrong = nowhere wrong wrongSize outOfRange 0 (λ e. omega arith) (λ e. omega arith)
-
--- ---- states that are not refused
-
--- the bytes stand for registers, and these are in range
-abbrev pub Accepted : List ℕ → Type 0
-Accepted s = (unfit s ≡ false) × (outside numbers0713 (unpacked s) ≡ false)
-
-packed-accepted : (r : Registers) → outside numbers0713 r ≡ false → Accepted (packed r)
-packed-accepted r h = (packed-fit r, ap (outside numbers0713) (registers-again r) ∙ h)
-
-accepted-left : (s : List ℕ) (x : Option Registers) → Accepted s → outside numbers0713 (afterBy (unpacked s) x) ≡ false
-    → {s′ : List ℕ} → s′ ≡ leftBy packed s x → Accepted s′
-accepted-left s none a h e = subst Accepted (sym e) a
-accepted-left s (some r) a h e = subst Accepted (sym e) (packed-accepted r h)
 
 -- ---- power-up
 
@@ -85,9 +71,10 @@ power-up-one f g = (f .left ∙ ap packed (powered-one (f .promised) (g .promise
 pub power-up-0 : {s : List ℕ} {r : ℕ} → PowerUpOut s r → r ≡ 0
 power-up-0 f = f .number
 
-pub power-up-accepted : {s : List ℕ} {r : ℕ} → PowerUpOut s r → Accepted s
+pub power-up-accepted : {s : List ℕ} {r : ℕ} → PowerUpOut s r → Accepted numbers0713 s
 power-up-accepted f =
-    subst Accepted (sym (f .left)) (packed-accepted (f .registers) (ap (outside numbers0713) (f .promised .tells) ∙ ranged numbers0713 _ (omega arith)))
+    subst (Accepted numbers0713) (sym (f .left))
+    (packed-accepted numbers0713 (f .registers) (ranged numbers0713 _ (powered-ranged numbers0713 sensible0713 (f .registers) (f .promised))))
 
 -- ---- one cycle
 
@@ -115,11 +102,12 @@ module _ (s m : List ℕ) (kind value read byte : ℕ) where
     cycle-0 = then (same-number cycle-number) (past (unfit s) _ _ 0 (unfit-some (misfit 132 m)))
 
   -- a state that is accepted stays one: whatever the cycle, the state that it leaves is fit and in range again
-  pub cycle-again : {s′ m′ : List ℕ} {read′ byte′ r : ℕ} → CycleOut s m kind value read byte s′ m′ read′ byte′ r → Accepted s → Accepted s′
+  pub cycle-again : {s′ m′ : List ℕ} {read′ byte′ r : ℕ} → CycleOut s m kind value read byte s′ m′ read′ byte′ r → Accepted numbers0713 s → Accepted numbers0713 s′
   cycle-again f a = if-split (unfit s) (f .promised) (λ t p. absurd (subst T (sym t ∙ a .0) tt))
-      (λ t p. accepted-left s (outcome (f .answer) .registers) a
+      (λ t p. accepted-left numbers0713 s (outcome (f .answer) .registers) a
+      (λ q e. subst (λ (x : Option Registers). outside numbers0713 (afterBy (unpacked s) x) ≡ false) e
       (subst (λ o. outside numbers0713 (afterBy (unpacked s) (o .registers)) ≡ false) (sym (p .tells))
-      (ranged numbers0713 _ (stays-ranged numbers0713 sensible0713 (unpacked s) m kind value (ranges numbers0713 (unpacked s) (a .1)))))
+      (ranged numbers0713 _ (stays-ranged numbers0713 sensible0713 (unpacked s) m kind value (ranges numbers0713 (unpacked s) (a .1))))))
       (f .state-left))
 
 -- ---- the glass
@@ -150,7 +138,7 @@ module _ (s : List ℕ) (answer : ℕ) where
         (λ t p. ap (λ a. toldPower a .number) p ∙ rw t refl)
         (λ t p. ap (λ o. o .number) (p .tells) ∙ test-number (outside numbers0713 (unpacked s)) outOfRange _ ∙ rw t refl)
 
-    pub power-state-0 : Exactly (r ≡ 0) (Accepted s)
+    pub power-state-0 : Exactly (r ≡ 0) (Accepted numbers0713 s)
     power-state-0 =
         then (same-number power-state-number)
         (then (past (unfit s) outOfRange _ 0 (λ e. omega arith)) (both (λ e. e, λ e. e) (only (outside numbers0713 (unpacked s)) outOfRange (λ e. omega arith))))
@@ -202,6 +190,11 @@ abbrev pub Writable : Option Instruction → Type 0
 Writable (some i) = Fits numbers0713 i
 Writable none = ⊥
 
+-- they name none, or a value outside its field
+abbrev pub Unwritable : Option Instruction → Type 0
+Unwritable (some i) = OutsideField numbers0713 i
+Unwritable none = Unit {0}
+
 module _ (number value byte : ℕ) where
   written-if-one : (x : Option Instruction) (a b : Writing) → WrittenIf x a → WrittenIf x b → a ≡ b
   written-if-one (some i) a b p q = written-one p q
@@ -217,6 +210,14 @@ module _ (number value byte : ℕ) where
 
   pub write-0 : {a r : ℕ} → WriteOut number value byte a r → Exactly (r ≡ 0) (Writable (named number value))
   write-0 {r = r} f = writable (named number value) (f .answer) r (f .promised) (f .answers .number)
+
+  unwritable : (x : Option Instruction) (a : Writing) (r : ℕ) → WrittenIf x a → r ≡ toldWriting a .number → Exactly (r ≡ outsideField) (Unwritable x)
+  unwritable (some i) a r p e = then (same-number (e ∙ ap (λ t. t .number) (p .tells))) (number-written-6 numbers0713 i)
+  unwritable none a r p e = (λ z. tt, λ z. e ∙ ap (λ a. toldWriting a .number) p)
+
+  -- 6 exactly if they name no instruction, or its value is outside its field
+  pub write-6 : {a r : ℕ} → WriteOut number value byte a r → Exactly (r ≡ outsideField) (Unwritable (named number value))
+  write-6 {r = r} f = unwritable (named number value) (f .answer) r (f .promised) (f .answers .number)
 
 -- ---- pictures
 

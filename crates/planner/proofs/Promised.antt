@@ -1,7 +1,7 @@
 -- What the four promises fix. Two answers that a promise admits are equal, and so are the outputs they leave; each number is
 -- answered exactly when its line of document 01's table holds and none earlier in the order does, and a refusal leaves both outputs
--- as they were; the first difference is the first in reading order; outputs that are long enough get their stream. All from the promises alone: what is told of an answer has an
--- inverse, and each promise names the number.
+-- as they were; the first difference is the first in reading order; outputs that are long enough get their stream. All from the
+-- promises alone: what is told of an answer has an inverse, and each promise names the number.
 -- Assumes nothing.
 use Prim.Native.Nat.{ℕ, _+_, _*_, _≤_, _<_}
 use mathlib.Core.Path.{_≡_, refl, sym, ap, subst, _∙_}
@@ -12,9 +12,10 @@ use mathlib.Core.List.{List, map}
 use native.Mathlib.Omega.{arith}
 use lib.ListN.{length, length-append, length-map}
 use lib.Dec.{ltb, eqb}
-use borrow.Author.Tests.{ltb-true, ltb-false, lt-ltb, le-ltb, eqb-true, eqb-false}
+use borrow.Author.Tests.{ltb-true, ltb-false, lt-ltb, le-ltb, eqb-true}
 use Rattle.instructions.specs.Told.{given}
-use Rattle.instructions.proofs.Telling.{apart, answerOf, refused-one, not-given}
+use Rattle.instructions.proofs.Telling.{apart, answerOf}
+use Rattle.instructions.proofs.Answering.{refused-number}
 use Rattle.controller.specs.Run.{BusCycle}
 use Rattle.streams.specs.Picture.{shown, Same}
 use Rattle.streams.specs.Stretch.{Place}
@@ -117,9 +118,9 @@ some-one e = cc
 -- a refusal carries a number that is not 0, and leaves both outputs as they were
 pub sent-refused-leaves : {number n : ℕ} {s : List BusCycle} {out kinds o k : List ℕ}
     → Sent number s out kinds (count.Refused n) o k → (n ≢ 0) × (o ≡ out) × (k ≡ kinds)
-sent-refused-leaves {number} {n} f = split (eqb number 0)
-    (λ t. absurd (not-given (rw t at (f .tells))))
-    (λ t. (λ z. eqb-false number 0 t (sym (refused-one (rw t at (f .tells))) ∙ z), rw t at (f .bytes), rw t at (f .kinds-left)))
+sent-refused-leaves {number} {n} {s} f =
+    let e = refused-number number n (length s) (f .tells) in
+    (e .0, f .bytes ∙ rw (e .1) refl, f .kinds-left ∙ rw (e .1) refl)
 
 -- ---- first_difference and update_length are refused with 1 exactly if a picture is not nine pages, and with nothing else
 

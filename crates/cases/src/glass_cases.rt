@@ -4,6 +4,7 @@ use crate::buffers::zeros;
 use crate::print::byte;
 use crate::print::line;
 use crate::print::number;
+use crate::print::refused;
 use crate::print::word;
 use glass::frame::Shown;
 use glass::frame::frame;
@@ -66,19 +67,15 @@ fn summary(frame: &[u8; 1188]) {
     number(lit.count);
     number(lit.first);
     byte(lit.value);
-    line();
 }
 
 fn drawn(registers: Registers, memory: &[u8]) {
     let mut out = zeros();
     match frame(registers, memory, &mut out) {
         Shown::Drawn => summary(&out),
-        Shown::Refused(n) => {
-            word(b" refused");
-            byte(n);
-            line();
-        }
+        Shown::Refused(n) => refused(n),
     }
+    line();
 }
 
 pub(crate) fn frames() {
@@ -112,17 +109,18 @@ fn shown(memory: &[u8]) {
     drawn(registers, memory);
 }
 
+fn named(state: PowerState) {
+    match state {
+        PowerState::Normal => word(b" normal"),
+        PowerState::Sleep => word(b" sleep"),
+        PowerState::Standby => word(b" standby"),
+    }
+}
+
 fn power(registers: Registers) {
     match power_state(registers) {
-        Powered::State(state) => match state {
-            PowerState::Normal => word(b" normal"),
-            PowerState::Sleep => word(b" sleep"),
-            PowerState::Standby => word(b" standby"),
-        },
-        Powered::Refused(n) => {
-            word(b" refused");
-            byte(n);
-        }
+        Powered::State(state) => named(state),
+        Powered::Refused(n) => refused(n),
     }
     line();
 }
@@ -133,15 +131,12 @@ fn volts(resistor: u8, contrast: u8) {
     byte(contrast);
     match v0(resistor, contrast) {
         Voltage::Fifteenths(n) => number(n as usize),
-        Voltage::Refused(n) => {
-            word(b" refused");
-            byte(n);
-        }
+        Voltage::Refused(n) => refused(n),
     }
     line();
 }
 
-pub(crate) fn numbers() {
+pub(crate) fn powers() {
     let mut registers = power_up();
     word(b"off:");
     power(registers);
@@ -154,7 +149,13 @@ pub(crate) fn numbers() {
     registers.on = true;
     word(b"on:");
     power(registers);
-    volts(0, 0);
+}
+
+// Every ratio at contrast 0, the highest V0, and both ways out of range.
+pub(crate) fn voltages() {
+    for resistor in 0..8 {
+        volts(resistor, 0);
+    }
     volts(7, 63);
     volts(8, 63);
     volts(7, 64);

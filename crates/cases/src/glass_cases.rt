@@ -69,8 +69,9 @@ fn summary(frame: &[u8; 1188]) {
     byte(lit.value);
 }
 
-fn drawn(registers: Registers, memory: &[u8]) {
+fn drawn(name: &[u8], registers: Registers, memory: &[u8]) {
     let mut out = zeros();
+    word(name);
     match frame(registers, memory, &mut out) {
         Shown::Drawn => summary(&out),
         Shown::Refused(n) => refused(n),
@@ -86,27 +87,20 @@ pub(crate) fn frames() {
 // On, at start line 60: line 0 is row 4, and the icon row does not move.
 fn shown(memory: &[u8]) {
     let mut registers = power_up();
-    word(b"off:");
-    drawn(registers, memory);
+    drawn(b"off:", registers, memory);
     registers.on = true;
     registers.start_line = 60;
-    word(b"start line 60:");
-    drawn(registers, memory);
+    drawn(b"start line 60:", registers, memory);
     registers.shl = true;
-    word(b"SHL:");
-    drawn(registers, memory);
+    drawn(b"SHL:", registers, memory);
     registers.adc = true;
-    word(b"ADC:");
-    drawn(registers, memory);
+    drawn(b"ADC:", registers, memory);
     registers.reverse = true;
-    word(b"reverse:");
-    drawn(registers, memory);
+    drawn(b"reverse:", registers, memory);
     registers.entire = true;
-    word(b"entire:");
-    drawn(registers, memory);
+    drawn(b"entire:", registers, memory);
     registers.contrast = 64;
-    word(b"contrast 64:");
-    drawn(registers, memory);
+    drawn(b"contrast 64:", registers, memory);
 }
 
 fn named(state: PowerState) {
@@ -117,7 +111,8 @@ fn named(state: PowerState) {
     }
 }
 
-fn power(registers: Registers) {
+fn power(name: &[u8], registers: Registers) {
+    word(name);
     match power_state(registers) {
         Powered::State(state) => named(state),
         Powered::Refused(n) => refused(n),
@@ -138,17 +133,13 @@ fn volts(resistor: u8, contrast: u8) {
 
 pub(crate) fn powers() {
     let mut registers = power_up();
-    word(b"off:");
-    power(registers);
+    power(b"off:", registers);
     registers.entire = true;
-    word(b"off and entire:");
-    power(registers);
+    power(b"off and entire:", registers);
     registers.indicator = true;
-    word(b"with the indicator:");
-    power(registers);
+    power(b"with the indicator:", registers);
     registers.on = true;
-    word(b"on:");
-    power(registers);
+    power(b"on:", registers);
 }
 
 // Every ratio at contrast 0, the highest V0, and both ways out of range.

@@ -12,8 +12,7 @@ use planner::length::update_length;
 use planner::redraw::redraw;
 use planner::update::update;
 
-fn answer(name: &[u8], count: Count) {
-    word(name);
+fn answer(count: Count) {
     match count {
         Count::Bytes(n) => {
             word(b" bytes");
@@ -24,14 +23,7 @@ fn answer(name: &[u8], count: Count) {
     line();
 }
 
-fn room_of(name: &[u8], room: usize, count: Count) {
-    word(name);
-    number(room);
-    answer(b"", count);
-}
-
-fn found(name: &[u8], place: Found) {
-    word(name);
+fn found(place: Found) {
     match place {
         Found::At { page, column } => {
             word(b" at");
@@ -46,21 +38,20 @@ fn found(name: &[u8], place: Found) {
 
 // Every cell differs: 1,215 bytes, and an output of 1,214 is too short.
 fn every_cell(recorded: &[u8], wanted: &[u8], out: &mut [u8], kinds: &mut [u8]) {
-    answer(b"every cell differs:", update_length(recorded, wanted));
-    let room = out.len();
-    room_of(b"an output of", room, update(recorded, wanted, out, kinds));
+    word(b"every cell differs:");
+    answer(update_length(recorded, wanted));
+    word(b"an output of");
+    number(out.len());
+    answer(update(recorded, wanted, out, kinds));
 }
 
 fn differences(recorded: &[u8], wanted: &[u8], misfit: &[u8]) {
-    found(b"first difference:", first_difference(recorded, wanted));
-    found(
-        b"first difference of equal pictures:",
-        first_difference(recorded, recorded),
-    );
-    found(
-        b"a picture of 1,214 bytes:",
-        first_difference(recorded, misfit),
-    );
+    word(b"first difference:");
+    found(first_difference(recorded, wanted));
+    word(b"first difference of equal pictures:");
+    found(first_difference(recorded, recorded));
+    word(b"a picture of 1,214 bytes:");
+    found(first_difference(recorded, misfit));
 }
 
 fn short_output() -> [u8; 1214] {
@@ -91,8 +82,9 @@ fn redraw_1219() -> [u8; 1219] {
 }
 
 fn one_redraw(wanted: &[u8], contrast: u8, out: &mut [u8], kinds: &mut [u8]) {
-    let room = out.len();
-    room_of(b"a redraw into", room, redraw(wanted, contrast, out, kinds));
+    word(b"a redraw into");
+    number(out.len());
+    answer(redraw(wanted, contrast, out, kinds));
 }
 
 // Output 1,218 for a redraw: 5; 1,219: given. A contrast of 64: 6.

@@ -1,12 +1,17 @@
-// The controller: each instruction once, with every register printed, and page 9.
+// The controller: each instruction; page 9, status, the reset pin, and what makes no cycle. A line for each case: its cycles with
+// what they answer, then every register.
 use crate::buffers::zeros;
 use crate::print::byte;
 use crate::print::flag;
 use crate::print::line;
+use crate::print::pair;
+use crate::print::refused;
+use crate::print::told;
 use crate::print::word;
 use controller::cycle::Answer;
 use controller::cycle::cycle;
 use instructions::instruction::Awaited;
+use registers::Column;
 use registers::ModifyRead;
 use registers::Registers;
 use registers::start::power_up;
@@ -56,112 +61,156 @@ fn show_flags(registers: Registers) {
     flag(registers.indicator);
 }
 
-// One cycle: a read prints its byte, a refusal its number.
-fn play(registers: Registers, memory: &mut [u8], kind: u8, value: u8) -> Registers {
-    match cycle(registers, memory, kind, value) {
-        Answer::Done(next) => next,
-        Answer::Status(status) => {
-            word(b" status");
-            byte(status);
-            registers
-        }
-        Answer::Read(next, read) => {
-            word(b" read");
-            byte(read);
-            next
-        }
-        Answer::Refused(refusal) => {
-            word(b" refused");
-            byte(refusal);
-            registers
-        }
+fn status(byte: u8) {
+    told(b" status", byte);
+}
+
+fn read(byte: u8) {
+    told(b" read", byte);
+}
+
+// A read prints its byte, a refusal its number.
+fn tell(answer: Answer) {
+    match answer {
+        Answer::Done(_) => (),
+        Answer::Status(byte) => status(byte),
+        Answer::Read(_, byte) => read(byte),
+        Answer::Refused(number) => refused(number),
     }
 }
 
-// An instruction byte: the memory plays no part.
-fn instruct(registers: Registers, value: u8) -> Registers {
-    let mut memory = zeros();
-    play(registers, &mut memory, 0, value)
+// The registers after a cycle: where it answers none they stay.
+fn after(registers: Registers, answer: Answer) -> Registers {
+    match answer {
+        Answer::Done(next) => next,
+        Answer::Status(_) => registers,
+        Answer::Read(next, _) => next,
+        Answer::Refused(_) => registers,
+    }
 }
 
-// Where each case starts: page 3, column 87, start line 10, SHL 1, resistor 5, contrast 42, the indicator on with value 1.
+// One cycle: its kind and value as in a job file, and what it answers.
+fn play(registers: Registers, memory: &mut [u8], kind: u8, value: u8) -> Registers {
+    pair(kind, value);
+    let answer = cycle(registers, memory, kind, value);
+    tell(answer);
+    word(b",");
+    after(registers, answer)
+}
+
+// One cycle more, or with FF FF the end of a case: every register is printed, and the next case starts where this one did.
+fn turn(
+    start: Registers,
+    registers: Registers,
+    memory: &mut [u8],
+    kind: u8,
+    value: u8,
+) -> Registers {
+    if kind == 0xff {
+        show(registers);
+        return start;
+    }
+    play(registers, memory, kind, value)
+}
+
+// Plays cases, each from the same registers: their cycles as in a job file, kind and value, and FF FF after each case.
+fn run_on(start: Registers, memory: &mut [u8], cases: &[u8]) {
+    let mut registers = start;
+    let mut i = 0;
+    while i < cases.len() / 2 {
+        registers = turn(start, registers, memory, cases[2 * i], cases[2 * i + 1]);
+        i += 1;
+    }
+}
+
+// On a memory of zeros.
+fn run(start: Registers, cases: &[u8]) {
+    let mut memory = zeros();
+    run_on(start, &mut memory, cases);
+}
+
+// Page 3, column 87, start line 10, SHL 1, resistor 5, contrast 42, the indicator on with value 1.
 fn prepared() -> Registers {
-    let placed = addressed(power_up());
-    let lines = instruct(placed, 0x4a);
-    let shl = instruct(lines, 0xc8);
-    let resistor = instruct(shl, 0x25);
-    let contrast = second(resistor, 0x81, 0x2a);
-    second(contrast, 0xad, 0x01)
+    Registers {
+        page: 3,
+        column: Column(87),
+        start_line: 10,
+        contrast: 42,
+        resistor: 5,
+        shl: true,
+        indicator: true,
+        indicator_value: 1,
+        ..power_up()
+    }
 }
 
-fn addressed(registers: Registers) -> Registers {
-    let page = instruct(registers, 0xb3);
-    let high = instruct(page, 0x15);
-    instruct(high, 0x07)
+// Every register away from its start value, with 88 saved and contrast awaited.
+fn altered() -> Registers {
+    Registers {
+        page: 3,
+        column: Column(89),
+        start_line: 10,
+        contrast: 42,
+        resistor: 5,
+        power: 5,
+        bias: true,
+        adc: true,
+        shl: true,
+        reverse: true,
+        entire: true,
+        on: true,
+        indicator: true,
+        indicator_value: 1,
+        holder: 91,
+        pin_low: true,
+        modify_read: ModifyRead::On(Column(88)),
+        awaited: Awaited::Contrast,
+    }
 }
 
-// An instruction byte, then its second byte.
-fn second(registers: Registers, byte: u8, value: u8) -> Registers {
-    let awaiting = instruct(registers, byte);
-    instruct(awaiting, value)
-}
-
-// One instruction of one byte: the registers after it.
-fn one(name: &[u8], value: u8) {
-    let before = prepared();
-    word(name);
-    show(instruct(before, value));
-}
-
-// One instruction that is read after another.
-fn two(name: &[u8], first: u8, value: u8) {
-    let before = prepared();
-    word(name);
-    show(second(before, first, value));
-}
-
-// 00 to A7.
-fn low_half() {
-    one(b"column low", 0x0c);
-    one(b"column high", 0x1a);
-    one(b"resistor", 0x26);
-    one(b"power", 0x2d);
-    one(b"start line", 0x7f);
-    one(b"contrast next", 0x81);
-    two(b"contrast value", 0x81, 0xff);
-    one(b"ADC", 0xa1);
-    one(b"bias", 0xa3);
-    one(b"entire", 0xa5);
-    one(b"reverse", 0xa7);
-}
-
-// AC to E3.
-fn high_half() {
-    one(b"indicator off", 0xac);
-    one(b"indicator on", 0xad);
-    two(b"indicator value", 0xad, 0xfe);
-    one(b"display", 0xaf);
-    one(b"page", 0xb9);
-    one(b"SHL", 0xc0);
-    one(b"modify-read on", 0xe0);
-    two(b"modify-read off", 0xe0, 0xee);
-    one(b"reset", 0xe2);
-    one(b"nothing", 0xe3);
-}
-
-// Each instruction in the order of document 01's table, with every register after it.
+// Each instruction, in the order of document 01's table.
 pub(crate) fn instructions() {
-    low_half();
-    high_half();
+    // 00 to 7F: low and high bits of column, resistor, power, start line.
+    run(
+        prepared(),
+        b"\x00\x0c\xff\xff\x00\x1a\xff\xff\x00\x26\xff\xff\x00\x2d\xff\xff\x00\x7f\xff\xff",
+    );
+    // 81 to A7: contrast next and its value, ADC, bias, entire, reverse.
+    run(
+        prepared(),
+        b"\x00\x81\xff\xff\x00\x81\x00\xff\xff\xff\x00\xa1\xff\xff\x00\xa3\xff\xff\x00\xa5\xff\xff\x00\xa7\xff\xff",
+    );
+    // AC to CF: indicator off, on and its value, display, page, SHL.
+    run(
+        prepared(),
+        b"\x00\xac\xff\xff\x00\xad\xff\xff\x00\xad\x00\xfe\xff\xff\x00\xaf\xff\xff\x00\xb9\xff\xff\x00\xc0\xff\xff",
+    );
+    // E0 to E3: modify-read on, and off again; reset; reset with 87 saved, and off after it; nothing.
+    run(
+        prepared(),
+        b"\x00\xe0\xff\xff\x00\xe0\x00\xee\xff\xff\x00\xe2\xff\xff\x00\xe0\x00\xe2\xff\xff\x00\xe0\x00\xe2\x00\xee\xff\xff\x00\xe3\xff\xff",
+    );
 }
 
-// Page 9: a write stores nothing and the column advances; what is then read back is the holder, then 0.
-pub(crate) fn page_nine() {
-    let mut memory = zeros();
-    let paged = play(power_up(), &mut memory, 0, 0xb9);
-    let written = play(paged, &mut memory, 1, 0x5a);
-    word(b"page 9:");
-    let once = play(written, &mut memory, 3, 0);
-    let twice = play(once, &mut memory, 3, 0);
-    show(twice);
+// And the rest of the bus.
+pub(crate) fn cycles() {
+    // AD from indicator off, and its value.
+    run(power_up(), b"\x00\xad\xff\xff\x00\xad\x00\x02\xff\xff");
+    // Page 9: a write stores nothing and the column advances; what is then read back is the holder, then 0.
+    run(power_up(), b"\x00\xb9\x01\x5a\x03\x00\x03\x00\xff\xff");
+    // Status at power-up, with ADC 1, with display on, with the pin low.
+    run(
+        power_up(),
+        b"\x02\x00\xff\xff\x00\xa1\x02\x00\xff\xff\x00\xaf\x02\x00\xff\xff\x04\x00\x02\x00\xff\xff",
+    );
+    // Pin low, and then high; pin high alone.
+    run(
+        altered(),
+        b"\x04\x00\xff\xff\x04\x00\x05\x00\xff\xff\x05\x00\xff\xff",
+    );
+    // A status read and a pin cycle with a value, and a kind above 5: no cycles.
+    run(
+        altered(),
+        b"\x02\x01\xff\xff\x05\x01\xff\xff\x06\x00\xff\xff",
+    );
 }

@@ -4,6 +4,7 @@ use crate::buffers::zeros;
 use crate::print::byte;
 use crate::print::line;
 use crate::print::number;
+use crate::print::refused;
 use crate::print::word;
 use glass::frame::Shown;
 use glass::frame::frame;
@@ -66,19 +67,16 @@ fn summary(frame: &[u8; 1188]) {
     number(lit.count);
     number(lit.first);
     byte(lit.value);
-    line();
 }
 
-fn drawn(registers: Registers, memory: &[u8]) {
+fn drawn(name: &[u8], registers: Registers, memory: &[u8]) {
     let mut out = zeros();
+    word(name);
     match frame(registers, memory, &mut out) {
         Shown::Drawn => summary(&out),
-        Shown::Refused(n) => {
-            word(b" refused");
-            byte(n);
-            line();
-        }
+        Shown::Refused(n) => refused(n),
     }
+    line();
 }
 
 pub(crate) fn frames() {
@@ -89,40 +87,35 @@ pub(crate) fn frames() {
 // On, at start line 60: line 0 is row 4, and the icon row does not move.
 fn shown(memory: &[u8]) {
     let mut registers = power_up();
-    word(b"off:");
-    drawn(registers, memory);
+    drawn(b"off:", registers, memory);
     registers.on = true;
     registers.start_line = 60;
-    word(b"start line 60:");
-    drawn(registers, memory);
+    drawn(b"start line 60:", registers, memory);
     registers.shl = true;
-    word(b"SHL:");
-    drawn(registers, memory);
+    drawn(b"SHL:", registers, memory);
     registers.adc = true;
-    word(b"ADC:");
-    drawn(registers, memory);
+    drawn(b"ADC:", registers, memory);
     registers.reverse = true;
-    word(b"reverse:");
-    drawn(registers, memory);
+    drawn(b"reverse:", registers, memory);
     registers.entire = true;
-    word(b"entire:");
-    drawn(registers, memory);
+    drawn(b"entire:", registers, memory);
     registers.contrast = 64;
-    word(b"contrast 64:");
-    drawn(registers, memory);
+    drawn(b"contrast 64:", registers, memory);
 }
 
-fn power(registers: Registers) {
+fn named(state: PowerState) {
+    match state {
+        PowerState::Normal => word(b" normal"),
+        PowerState::Sleep => word(b" sleep"),
+        PowerState::Standby => word(b" standby"),
+    }
+}
+
+fn power(name: &[u8], registers: Registers) {
+    word(name);
     match power_state(registers) {
-        Powered::State(state) => match state {
-            PowerState::Normal => word(b" normal"),
-            PowerState::Sleep => word(b" sleep"),
-            PowerState::Standby => word(b" standby"),
-        },
-        Powered::Refused(n) => {
-            word(b" refused");
-            byte(n);
-        }
+        Powered::State(state) => named(state),
+        Powered::Refused(n) => refused(n),
     }
     line();
 }
@@ -133,28 +126,27 @@ fn volts(resistor: u8, contrast: u8) {
     byte(contrast);
     match v0(resistor, contrast) {
         Voltage::Fifteenths(n) => number(n as usize),
-        Voltage::Refused(n) => {
-            word(b" refused");
-            byte(n);
-        }
+        Voltage::Refused(n) => refused(n),
     }
     line();
 }
 
-pub(crate) fn numbers() {
+pub(crate) fn powers() {
     let mut registers = power_up();
-    word(b"off:");
-    power(registers);
+    power(b"off:", registers);
     registers.entire = true;
-    word(b"off and entire:");
-    power(registers);
+    power(b"off and entire:", registers);
     registers.indicator = true;
-    word(b"with the indicator:");
-    power(registers);
+    power(b"with the indicator:", registers);
     registers.on = true;
-    word(b"on:");
-    power(registers);
-    volts(0, 0);
+    power(b"on:", registers);
+}
+
+// Every ratio at contrast 0, the highest V0, and both ways out of range.
+pub(crate) fn voltages() {
+    for resistor in 0..8 {
+        volts(resistor, 0);
+    }
     volts(7, 63);
     volts(8, 63);
     volts(7, 64);

@@ -7,9 +7,10 @@ mod streams;
 
 fn main() {
     chip::instructions();
-    chip::page_nine();
+    chip::cycles();
     glass_cases::frames();
-    glass_cases::numbers();
+    glass_cases::powers();
+    glass_cases::voltages();
     streams::lengths();
     streams::redraws();
 }

@@ -14,6 +14,13 @@ pub(crate) fn byte(n: u8) {
     number(n as usize);
 }
 
+// A cycle as its two bytes in a job file, in hex.
+pub(crate) fn pair(kind: u8, value: u8) {
+    io::print_hex(1, kind as u64, 2);
+    io::write_all(1, b" ");
+    io::print_hex(1, value as u64, 2);
+}
+
 // A space and a 0 or 1.
 pub(crate) fn flag(on: bool) {
     if on {
@@ -25,4 +32,14 @@ pub(crate) fn flag(on: bool) {
 
 pub(crate) fn line() {
     io::write_all(1, b"\n");
+}
+
+// A word and a number.
+pub(crate) fn told(text: &[u8], n: u8) {
+    word(text);
+    byte(n);
+}
+
+pub(crate) fn refused(n: u8) {
+    told(b" refused", n);
 }

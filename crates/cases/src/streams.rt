@@ -1,9 +1,9 @@
 // The planner: the longest update, and room for a redraw.
 use crate::buffers::ones;
 use crate::buffers::zeros;
-use crate::print::byte;
 use crate::print::line;
 use crate::print::number;
+use crate::print::refused;
 use crate::print::word;
 use planner::count::Count;
 use planner::first::Found;
@@ -18,10 +18,7 @@ fn answer(count: Count) {
             word(b" bytes");
             number(n);
         }
-        Count::Refused(n) => {
-            word(b" refused");
-            byte(n);
-        }
+        Count::Refused(n) => refused(n),
     }
     line();
 }
@@ -34,10 +31,7 @@ fn found(place: Found) {
             number(column);
         }
         Found::Nothing => word(b" nothing"),
-        Found::Refused(n) => {
-            word(b" refused");
-            byte(n);
-        }
+        Found::Refused(n) => refused(n),
     }
     line();
 }

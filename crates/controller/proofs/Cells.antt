@@ -90,7 +90,7 @@ stored-length-by false m i v = refl
 
 pub stored-length : (w : ℕ) (m : List ℕ) (p c v : ℕ) → length (stored w m p c v) ≡ length m
 unfolding stored
-stored-length w m p c v = stored-length-by (isCell w p c) m (w * p + c) (cellOf p v)
+stored-length w m p c v = stored-length-by (isCell w p c) m (w * p + c) _
 
 stored-other-by : (t : Bool) (m : List ℕ) (i j v : ℕ) → j ≢ i → getD (cond t (set m i v) m) j 0 ≡ getD m j 0
 stored-other-by true m i j v h = getD-set-other m i j v 0 h
@@ -99,7 +99,7 @@ stored-other-by false m i j v h = refl
 -- every other byte stays
 pub stored-other : (w : ℕ) (m : List ℕ) (p c v j : ℕ) → j ≢ w * p + c → getD (stored w m p c v) j 0 ≡ getD m j 0
 unfolding stored
-stored-other w m p c v j h = stored-other-by (isCell w p c) m (w * p + c) j (cellOf p v) h
+stored-other w m p c v j h = stored-other-by (isCell w p c) m (w * p + c) j _ h
 
 -- the cell holds the byte
 pub stored-same : (w : ℕ) (m : List ℕ) (p c v : ℕ) → length m ≡ 9 * w → p < 9 → c < w → getD (stored w m p c v) (w * p + c) 0 ≡ cellOf p v

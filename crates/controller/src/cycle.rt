@@ -1,7 +1,7 @@
 // One cycle on the bus.
 ghost use mathlib.Core.Path.{_≡_};
 ghost use mathlib.Core.Bool.{cond};
-ghost use Prim.Native.Nat.{_*_, _≤_};
+ghost use Prim.Native.Nat.{_+_, _*_, _≤_};
 ghost use lib.ListN.{length};
 ghost use Rattle.instructions.specs.Numbers.{Sensible, numbers0713};
 ghost use Rattle.instructions.specs.Read.{readOf};
@@ -35,7 +35,7 @@ pub enum Answer {
 }
 
 fn choose(test: bool, yes: u8, no: u8) -> u8
-    ensures { λ r. ⌜ r ≡ cond test yes no ⌝ }
+    ensures { λ r. ⌜ (r ≡ cond test yes no) × (r ≤ yes + no) ⌝ }
 {
     if test { yes } else { no }
 }

@@ -1,10 +1,8 @@
--- `controller::cycle::status_of` meets its contract: the three bits never carry.
+-- `controller::cycle::status_of` meets its contract: the bits never carry.
 -- Assumes nothing.
-use lib.Dec.{lit≤}
 use native.Mathlib.Omega.{arith}
 use borrow.Author.Needs.{needs}
 use Rattle.controller.specs.Cycle.{status}
-use Rattle.controller.proofs.Ranges.{cond-le}
 use Rattle.controller.proofs.cycle.status_of.Statement.{statement}
 use Rattle.controller.proofs.cycle.status_of.Tie as tie
 
@@ -15,7 +13,7 @@ status-of-spec =
     (tie.spec
     (λ c κs. search needs)
     (λ c κs. search needs)
-    (λ c. let r = c .before .before .args .registers in omega (arith, cond-le (r .adc) 0 64 64 (lit≤ tt) (lit≤ tt), cond-le (r .on) 0 32 32 (lit≤ tt) (lit≤ tt)))
+    (λ c. omega (arith, c .before .choose .ensures .1, c .choose2 .ensures .1))
     (λ c κs. search needs)
-    (λ c. let r = c .before .before .before .args .registers in omega (arith, cond-le (r .adc) 0 64 64 (lit≤ tt) (lit≤ tt), cond-le (r .on) 0 32 32 (lit≤ tt) (lit≤ tt), cond-le (r .«pin_low») 16 0 16 (lit≤ tt) (lit≤ tt)))
+    (λ c. omega (arith, c .before .before .choose .ensures .1, c .before .choose2 .ensures .1, c .choose3 .ensures .1))
     (λ c. cc))

@@ -27,8 +27,9 @@ static void head(const char *title)
 static void row(const char *call, const char *input, struct cost cost)
 {
     const double *n = cost.steps, *t = cost.times;
-    printf("| %s | %s | %.0f | %.0f | %.0f | %.2f | %.2f | %.2f | %.2f |\n", call, input, n[OURS], n[O2], n[O3], n[OURS] / n[O2],
-        n[OURS] / n[O3], t[OURS] / t[O2], t[OURS] / t[O3]);
+    printf("| %s | %s | %.0f | %.0f | %.0f | %.2f | %.2f |", call, input, n[OURS], n[O2], n[O3], n[OURS] / n[O2], n[OURS] / n[O3]);
+    if (counting == STEPPING) printf(" %.2f | %.2f |\n", t[OURS] / t[O2], t[OURS] / t[O3]);
+    else printf(" - | - |\n");
 }
 
 static void pictures(void)
@@ -146,8 +147,11 @@ static void ways(void)
     }
 }
 
-int main(void)
+/* usage: bench [marks | counts]; without a word it steps. `marks` first says where `mark` is */
+int main(int argc, char **argv)
 {
+    if (argc > 1) counting = strcmp(argv[1], "marks") ? READING : MARKING;
+    if (counting == MARKING) printf("mark %016lx\n", (unsigned long)mark);
     printf("\n## Instructions and time of each call\n");
     pictures();
     lists();

@@ -1,12 +1,38 @@
 #include "measure.h"
 #include "posix.h"
+#include "sides.h"
+
+enum counting counting = STEPPING;
+
+__attribute__((noinline)) void mark(void) { __asm__ volatile(""); }
 
 static void nothing(void) {}
 
 static int stopped(int status) { return (status & 0xff) == 0x7f; }
 
+static long marked(void (*call)(void))
+{
+    static struct desk before;
+    before = desk;
+    mark();
+    call();
+    mark();
+    desk = before;
+    return 0;
+}
+
+static long counted(void)
+{
+    long steps;
+    if (scanf("%ld", &steps) != 1) {
+        printf("bench: fewer counts than calls\n");
+        exit(2);
+    }
+    return steps;
+}
+
 /* from a child's first stop to its second */
-static long steps_between(void (*call)(void))
+static long stepped(void (*call)(void))
 {
     int child = fork(), status = 0;
     if (child == 0) {
@@ -31,6 +57,11 @@ static long steps_between(void (*call)(void))
             return steps;
         }
     }
+}
+
+static long steps_between(void (*call)(void))
+{
+    return counting == MARKING ? marked(call) : counting == READING ? counted() : stepped(call);
 }
 
 /* without the two stops: the empty call's own return is one instruction of it, as it is of every call */
@@ -58,6 +89,8 @@ void times_of(void (*const *call)(void), int sides, double *nanoseconds)
     enum { ROUNDS = 15 };
     double round = 2e6;
     long turns = 1;
+    for (int side = 0; side < sides; side++) nanoseconds[side] = 0;
+    if (counting != STEPPING) return;
     while (time_of(call[0], turns) < round) turns *= 2;
     for (int side = 0; side < sides; side++) nanoseconds[side] = 1e18;
     for (int r = 0; r < ROUNDS; r++)

@@ -5,6 +5,8 @@
 #include <stdint.h>
 
 int printf(const char *, ...);
+int scanf(const char *, ...);
+int strcmp(const char *, const char *);
 void *memcpy(void *, const void *, size_t);
 void exit(int);
 void _exit(int);

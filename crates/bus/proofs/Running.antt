@@ -48,7 +48,6 @@ room n o e =
 -- ---- what is put from entry 0 on stands in front
 
 in-front : (f : Turn → ℕ) (ts : List Turn) (out : List ℕ) → length ts ≤ length out → sets out 0 (map f ts) ≡ over (map f ts) out
-unfolding over
 in-front f ts out h =
     let e : 0 + length (map f ts) ≤ length out = rw length-map (omega arith) in
     rw zero-add at (sets-eq (map f ts) out 0 e)

@@ -26,6 +26,7 @@ use Rattle.glass.specs.declared.power.Powered.{Powered}
 use Rattle.glass.specs.declared.power.Powered.the-variants as powered
 use Rattle.glass.specs.declared.voltage.Voltage.{Voltage}
 use Rattle.glass.specs.declared.voltage.Voltage.the-variants as voltage
+use Rattle.instructions.proofs.Answering.{refused-number}
 use Rattle.instructions.proofs.Either.{either, or-true}
 use Rattle.instructions.proofs.Exactly.{Exactly}
 use Rattle.glass.proofs.Places.{right-sizes}
@@ -40,10 +41,6 @@ module _ {A : Type 0} where
   is-given : (t : Bool) (n : ℕ) (x : A) → given x ≡ cond t (given x) (refused n) → t ≡ true
   is-given true n x e = refl
   is-given false n x e = absurd (not-given (sym e))
-
-  is-refused : (t : Bool) (n m : ℕ) (x : A) → refused n ≡ cond t (given x) (refused m) → t ≡ false
-  is-refused true n m x e = absurd (not-given e)
-  is-refused false n m x e = refl
 
 -- ---- the power state
 
@@ -70,8 +67,8 @@ module _ {c : Numbers} {r : Registers} where
     (λ o. power-told a (powered.Refused outOfRange) (rw o at (f .tells))),
   )
 
-  pub power-not-0 : IsPower c r (powered.Refused 0) → ⊥
-  power-not-0 f = omega (arith, power-number f .0)
+  pub power-not-0 : {n : ℕ} → IsPower c r (powered.Refused n) → n ≢ 0
+  power-not-0 f z = omega (arith, power-number f .0)
 
 -- ---- V0
 
@@ -110,8 +107,8 @@ module _ {k v : ℕ} where
       tests (inl h) = inl (lt-ltb 7 k h)
       tests (inr h) = inr (lt-ltb 63 v h)
 
-  pub voltage-not-0 : IsVoltage k v (voltage.Refused 0) → ⊥
-  voltage-not-0 f = omega (arith, voltage-number f .0)
+  pub voltage-not-0 : {n : ℕ} → IsVoltage k v (voltage.Refused n) → n ≢ 0
+  voltage-not-0 f z = omega (arith, voltage-number f .0)
 
 -- ---- the frame
 
@@ -206,24 +203,14 @@ module _ {c : Numbers} {r : Registers} {m frame : List ℕ} where
       range (inl p) = absurd (omega (arith, p .0))
       range (inr p) = p .1
 
-  pub shown-not-0 : {l : List ℕ} → IsShown c r m frame (shown.Refused 0) l → ⊥
-  shown-not-0 f = none (shown-number f)
-    where
-      none : {X Y : Type 0} → ((0 ≡ wrongSize) × X) ⊎ ((0 ≡ outOfRange) × Y) → ⊥
-      none (inl p) = omega (arith, p .0)
-      none (inr p) = omega (arith, p .0)
-
-  -- drawn, the whole frame is; refused, it is left
+  -- drawn, the whole frame is
   pub shown-drawn : {l : List ℕ} → IsShown c r m frame shown.Drawn l → l ≡ frameOf c r m
   shown-drawn f =
       let n = refusal c r (length m) (length frame) in
       rw (is-given (eqb n 0) n tt (f .tells)) at (f .leaves)
 
-  pub shown-left : {n : ℕ} {l : List ℕ} → IsShown c r m frame (shown.Refused n) l → l ≡ frame
-  shown-left {n} f =
-      let k = refusal c r (length m) (length frame) in
-      rw (is-refused (eqb k 0) n k tt (f .tells)) at (f .leaves)
-
-  -- a refusal alters nothing, and no refusal is 0
+  -- a refusal alters nothing, and its number is not 0
   pub shown-refused-leaves : {n : ℕ} {l : List ℕ} → IsShown c r m frame (shown.Refused n) l → (n ≢ 0) × (l ≡ frame)
-  shown-refused-leaves {l = l} f = (λ e. shown-not-0 (subst (λ (x : ℕ). IsShown c r m frame (shown.Refused x) l) e f), shown-left f)
+  shown-refused-leaves {n} f =
+      let e = refused-number (refusal c r (length m) (length frame)) n tt (f .tells) in
+      (e .0, f .leaves ∙ rw (e .1) refl)

@@ -3,7 +3,7 @@
 -- Assumes nothing.
 use Prim.Native.Nat.{ℕ, _+_, _≤_, _<_}
 use mathlib.Core.Path.{_≡_, _∙_, refl, ap, sym, subst}
-use mathlib.Core.Logic.{_⊎_, inl, inr}
+use mathlib.Core.Logic.{_≢_, _⊎_, inl, inr}
 use mathlib.Core.Bool.{Bool, true, false, cond, not, _&&_}
 use mathlib.Core.Option.{Option, none, some}
 use native.Mathlib.Omega.{arith}
@@ -89,8 +89,8 @@ module _ (k : Numbers) (b : ℕ) (h : b < 256) where
   unread-4 awaited.Contrast n f = absurd (not-given (f .tells))
   unread-4 awaited.Indicator n f = absurd (not-given (f .tells))
 
-  pub unread-not-0 : (a : Awaited) → IsRead k a b (Unread 0) → ⊥
-  unread-not-0 a f = omega (arith, unread-4 a 0 f .0)
+  pub unread-not-0 : (a : Awaited) (n : ℕ) → IsRead k a b (Unread n) → n ≢ 0
+  unread-not-0 a n f z = omega (arith, unread-4 a n f .0)
 
   by-value : assigned b ≡ false → (x : Option Instruction) → readOf k awaited.Nothing b .value ≡ x → readOf k awaited.Nothing b ≡ refused unassigned
   by-value e none f = told-is (readFirst k b) (read-none f .1) f
@@ -178,5 +178,5 @@ module _ (k : Numbers) (i : Instruction) where
   pub unwritten-6 : (n : ℕ) → IsWritten k i (Unwritten n) → n ≡ outsideField
   unwritten-6 n f = only-6 (written-so k i) (f .tells)
 
-  pub unwritten-not-0 : IsWritten k i (Unwritten 0) → ⊥
-  unwritten-not-0 f = omega (arith, unwritten-6 0 f)
+  pub unwritten-not-0 : (n : ℕ) → IsWritten k i (Unwritten n) → n ≢ 0
+  unwritten-not-0 n f z = omega (arith, unwritten-6 n f)

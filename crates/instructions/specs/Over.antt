@@ -5,5 +5,5 @@ use mathlib.Core.List.{List, _++_}
 use lib.ListN.{length, drop}
 
 -- an output with these bytes in front: a longer output keeps its bytes past them
-unfoldable pub over : List ℕ → List ℕ → List ℕ
+abbrev pub over : List ℕ → List ℕ → List ℕ
 over bytes out = bytes ++ drop (length bytes) out

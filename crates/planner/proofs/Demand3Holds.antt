@@ -4,7 +4,6 @@
 use Prim.Native.Nat.{ℕ, _<_}
 use mathlib.Core.Path.{_≡_, _∙_, refl, ap, sym, subst}
 use mathlib.Core.Bool.{Bool, true, false, cond}
-use mathlib.Core.Option.{none}
 use mathlib.Core.List.{List, [], _∷_, _++_, map}
 use native.Mathlib.Omega.{arith}
 use lib.Dec.{lit≤, ltb, eqb}
@@ -13,23 +12,23 @@ use lib.ListN.{length, take, drop}
 use Rattle.instructions.specs.Refusal.{wrongSize, outsideField, shortOutput}
 use Rattle.instructions.specs.Told.{given}
 use Rattle.instructions.specs.Numbers.{numbers0713}
+use Rattle.instructions.proofs.Sensible.{sensible0713}
 use Rattle.instructions.proofs.Telling.{given-one, not-given}
-use Rattle.registers.specs.Registers.{outside, PoweredUp}
+use Rattle.registers.specs.Registers.{PoweredUp}
 use Rattle.registers.specs.declared.Registers.{Registers}
+use Rattle.registers.proofs.InRange.{ranged, powered-ranged}
 use Rattle.controller.specs.Run.{BusCycle}
 use Rattle.controller.specs.State.{State, state, rest, settings}
 use Rattle.controller.proofs.Chips.{chip0713, restart0713, moved, redrawn}
-use Rattle.streams.specs.Stretch.{emit}
-use Rattle.streams.specs.Update.{update, updateStream}
+use Rattle.streams.specs.Update.{updateStream}
 use Rattle.streams.specs.Redraw.{redrawStream}
 use Rattle.streams.specs.Demand.{Recorded, Restarts}
 use Rattle.streams.proofs.Pictures.{same-refl}
 use Rattle.streams.proofs.Painting.{update-kind}
 use Rattle.streams.proofs.Length.{update-length, update-most, redraw-length}
-use Rattle.streams.proofs.Updating.{update-right, update-least, update-cut, cut-accepted}
+use Rattle.streams.proofs.Updating.{update-emits, update-right, update-least, update-cut, cut-accepted}
 use Rattle.streams.proofs.Redrawing.{redraw-right, redraw-cut}
 use Rattle.planner.specs.Pictures.{misfit}
-use Rattle.instructions.specs.Over.{over}
 use Rattle.planner.specs.Sent.{kindOf, byteOf, tooShort, Sent, redrawRefusal, IsUpdate, IsRedraw}
 use Rattle.planner.specs.Demand3.{PinHigh, Holding, played, pairs, Updates, Redraws}
 use Rattle.planner.specs.declared.count.Count.the-variants.{Bytes}
@@ -60,18 +59,13 @@ holding s picture h = record {
 -- ---- power-up meets the premises: of a redraw, and of an update if the memory as lent is the recorded picture
 
 pub power-up-pin-high : (r : Registers) (m : List ℕ) → PoweredUp numbers0713 r → length m ≡ 1188 → PinHigh r m
-unfolding outside
-power-up-pin-high r m p h = record { ranged = rw (p .tells) refl; high = ap (λ s. s .«pin_low») (p .tells); long = h }
+power-up-pin-high r m p h = record { ranged = ranged numbers0713 r (powered-ranged numbers0713 sensible0713 r p); high = ap (λ s. s .«pin_low») (p .tells); long = h }
 
 pub power-up-holds : (r : Registers) (m : List ℕ) → PoweredUp numbers0713 r → length m ≡ 1188 → Holding r m m
 power-up-holds r m p h =
     record { pin = power-up-pin-high r m p h; quiet = ap (λ s. s .awaited) (p .tells); same = same-refl 132 m }
 
 -- ---- the update
-
-update-stream : (recorded wanted : List ℕ) → updateStream 132 recorded wanted ≡ emit none (update 132 recorded wanted)
-unfolding updateStream
-update-stream recorded wanted = refl
 
 pub update-updates : (r : Registers) (m recorded wanted : List ℕ) → Holding r m recorded → Updates r m recorded wanted (updateStream 132 recorded wanted)
 update-updates r m recorded wanted h =
@@ -89,7 +83,7 @@ update-updates r m recorded wanted h =
       count = n;
       most = omega (arith, n, update-most 132 recorded wanted);
       of-kind = update-kind 132 recorded wanted;
-      stream = update-stream recorded wanted;
+      stream = update-emits 132 recorded wanted;
       least = λ xs ok e. omega (arith, n, update-least chip0713 s recorded wanted p xs ok e);
       cut = λ n. update-cut chip0713 s recorded wanted p n .between;
       cut-accepted = λ n. cut-accepted chip0713 s recorded wanted p n;
@@ -123,7 +117,6 @@ pairs-are (c ∷ s) x y = ap (λ l. c ∷ l) (pairs-are s x y)
 
 module _ {number : ℕ} {s : List BusCycle} {out kinds : List ℕ} {n : ℕ} {out′ kinds′ : List ℕ} (sent : Sent number s out kinds (Bytes n) out′ kinds′) where
   sent-by : (t : Bool) → eqb number 0 ≡ t → (number ≡ 0) × (pairs n kinds′ out′ ≡ s)
-  unfolding over
   sent-by true e =
       let count : n ≡ length s = given-one (sent .tells ∙ rw e refl) in
       (eqb-true number 0 e, rw (count, sent .kinds-left, sent .bytes, e) (pairs-are s (drop (length (map kindOf s)) kinds) (drop (length (map byteOf s)) out)))

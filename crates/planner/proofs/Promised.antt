@@ -259,7 +259,6 @@ is-given {s = s} {a = a} e f = record {
 
 -- what stands in front of an output is not longer than it
 pub over-holds : (f : BusCycle → ℕ) (s : List BusCycle) (out : List ℕ) {left : List ℕ} → left ≡ over (map f s) out → length s ≤ length left
-unfolding over
 over-holds f s out e = rw (e, length-append) (omega (arith, length-map s f))
 
 long-enough : (s : List BusCycle) (out kinds : List ℕ) → length s ≤ length out → length s ≤ length kinds → tooShort s out kinds ≡ false

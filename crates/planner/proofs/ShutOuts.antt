@@ -50,7 +50,6 @@ module _ {number : ℕ} {s : List BusCycle} {out kinds : List ℕ} {n : ℕ} {o 
 
 pub redraw-writes : (w : List ℕ) (contrast : ℕ) (out kinds : List ℕ) (n : ℕ) (o k : List ℕ) → IsRedraw 132 w contrast out kinds (Bytes n) o k
     → getD o 0 0 ≡ 0xe3
-unfolding over
 redraw-writes w contrast out kinds n o k f =
     ap (λ (l : List ℕ). getD l 0 0) (bytes-out f .1)
     ∙ ap (λ (s : List BusCycle). getD (over (map byteOf s) out) 0 0) (redraw-walk 132 w contrast)

@@ -46,7 +46,7 @@ put-put d at s t h =
 
 -- a stream put at the start
 pub put-over : (d s : List ℕ) → put d 0 s ≡ over s d
-unfolding put over
+unfolding put
 put-over d s = rw zero-add
 
 -- ---- both outputs

@@ -3,14 +3,16 @@
 -- its page groups, one after the other, since each is a walk of its own. The redraw's stream is these bytes in this order: its
 -- definition computes to them.
 -- Assumes nothing.
-use Prim.Native.Nat.{ℕ, zero, suc, _+_, _-_}
-use mathlib.Core.Path.{_≡_, refl, sym, ap, _∙_}
+use Prim.Native.Nat.{ℕ, zero, suc, _+_, _*_, _-_, _%_}
+use mathlib.Core.Path.{_≡_, refl, sym, _∙_}
+use mathlib.Core.Logic.{_≢_}
 use mathlib.Core.Bool.{Bool, true, false}
 use mathlib.Core.Option.{none}
 use mathlib.Core.List.{List, [], _∷_, _++_, append-nil}
 use native.Mathlib.Omega.{arith}
+use lib.ListN.{getD}
 use Rattle.instructions.specs.Listed.{listed}
-use Rattle.controller.specs.Memory.{cellOf}
+use Rattle.controller.proofs.Cells.{cell-icons, cell-whole}
 use Rattle.streams.specs.Picture.{shown, differs}
 use Rattle.streams.specs.Stretch.{onIt, address, emitBy}
 use Rattle.streams.specs.Update.{Run, joins, join, joinIf, runs, wantedBytes, updateStream}
@@ -86,15 +88,33 @@ module _ (W : ℕ) (r w : List ℕ) where
 -- ---- the redraw, byte by byte
 
 module _ (W : ℕ) (w : List ℕ) where
-  bytes-listed : (p c n : ℕ) → wantedBytes W w p c n ≡ listed (shown W w p) c n
-  unfolding wantedBytes
-  bytes-listed p c zero = refl
-  bytes-listed p c (suc n) = ap (λ (l : List ℕ). shown W w p c ∷ l) (bytes-listed p (suc c) n)
+  -- the bytes of a page are its cells: whole on pages 0 to 7, mod 2 on page 8
+  whole-cells : (p : ℕ) → p ≢ 8 → (c n : ℕ) → wantedBytes W w p c n ≡ listed (λ k. getD w (W * p + k) 0) c n
+  unfolding wantedBytes shown
+  whole-cells p h c zero = refl
+  whole-cells p h c (suc n) = rw (cell-whole p (getD w (W * p + c) 0) h, whole-cells p h (suc c) n)
+
+  icon-cells : (c n : ℕ) → wantedBytes W w 8 c n ≡ listed (λ k. getD w (W * 8 + k) 0 % 2) c n
+  unfolding wantedBytes shown
+  icon-cells c zero = refl
+  icon-cells c (suc n) = rw (cell-icons (getD w (W * 8 + c) 0), icon-cells (suc c) n)
 
   -- E3, AC, 81 and the contrast; then each page's byte, 10, 00 and its W cells as data
   pub redraw-bytes : (v : ℕ) → redrawStream W w v ≡ (0, 0xe3) ∷ (0, 0xac) ∷ (0, 0x81) ∷ (0, v)
       ∷ (pageGroup 0xb0 (pageCells W w 0) ++ (pageGroup 0xb1 (pageCells W w 1) ++ (pageGroup 0xb2 (pageCells W w 2)
       ++ (pageGroup 0xb3 (pageCells W w 3) ++ (pageGroup 0xb4 (pageCells W w 4) ++ (pageGroup 0xb5 (pageCells W w 5)
       ++ (pageGroup 0xb6 (pageCells W w 6) ++ (pageGroup 0xb7 (pageCells W w 7) ++ pageGroup 0xb8 (iconCells W w)))))))))
-  unfolding redrawStream redraw wholePages wholePage emitBy address onIt shown cellOf
-  redraw-bytes v = simp (bytes-listed, append-nil)
+  unfolding redrawStream redraw wholePages wholePage emitBy address onIt
+  redraw-bytes v =
+      simp (
+        whole-cells 0 (λ e. omega arith) 0 W,
+        whole-cells 1 (λ e. omega arith) 0 W,
+        whole-cells 2 (λ e. omega arith) 0 W,
+        whole-cells 3 (λ e. omega arith) 0 W,
+        whole-cells 4 (λ e. omega arith) 0 W,
+        whole-cells 5 (λ e. omega arith) 0 W,
+        whole-cells 6 (λ e. omega arith) 0 W,
+        whole-cells 7 (λ e. omega arith) 0 W,
+        icon-cells 0 W,
+        append-nil,
+      )

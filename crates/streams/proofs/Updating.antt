@@ -49,6 +49,11 @@ kept-write W r w m p c hp hc k =
           rw e (k .1 q j hq hj)),
     )
 
+-- its stream is that of its stretches
+pub update-emits : (W : ℕ) (r w : List ℕ) → updateStream W r w ≡ emit none (update W r w)
+unfolding updateStream
+update-emits W r w = refl
+
 module _ {W : ℕ} (C : Chip W) where
   open Chip C using (State, view, Ready, step, number)
 

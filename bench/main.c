@@ -20,16 +20,17 @@ static struct cost cost_of(enum call call)
 
 static void head(const char *title)
 {
-    printf("\n### %s\n\n| Call | Input | Library | C -O2 | C -O3 restrict | Library / -O2 | Library / -O3 | Time / -O2 | Time / -O3 |\n", title);
-    printf("|---|---|---:|---:|---:|---:|---:|---:|---:|\n");
+    const char *times = counting == STEPPING ? " Time / -O2 | Time / -O3 |" : "", *lines = counting == STEPPING ? "---:|---:|" : "";
+    printf("\n### %s\n\n| Call | Input | Library | C -O2 | C -O3 restrict | Library / -O2 | Library / -O3 |%s\n", title, times);
+    printf("|---|---|---:|---:|---:|---:|---:|%s\n", lines);
 }
 
 static void row(const char *call, const char *input, struct cost cost)
 {
     const double *n = cost.steps, *t = cost.times;
     printf("| %s | %s | %.0f | %.0f | %.0f | %.2f | %.2f |", call, input, n[OURS], n[O2], n[O3], n[OURS] / n[O2], n[OURS] / n[O3]);
-    if (counting == STEPPING) printf(" %.2f | %.2f |\n", t[OURS] / t[O2], t[OURS] / t[O3]);
-    else printf(" - | - |\n");
+    if (counting == STEPPING) printf(" %.2f | %.2f |", t[OURS] / t[O2], t[OURS] / t[O3]);
+    printf("\n");
 }
 
 static void pictures(void)

@@ -6,7 +6,7 @@ use mathlib.Core.Path.{_≡_, _∙_, refl, ap, sym, subst}
 use mathlib.Core.Logic.{_≢_, _⊎_, inl, inr, ⊎-elim}
 use mathlib.Core.Bool.{Bool, true, false, cond, not, _||_}
 use mathlib.Core.Option.{none, some}
-use mathlib.Core.List.{List, [], _∷_}
+use mathlib.Core.List.{List, [], _∷_, map}
 use native.Mathlib.Omega.{arith}
 use lib.ListN.{length}
 use lib.Dec.{T, ltb, eqb}
@@ -29,10 +29,10 @@ use Rattle.state.specs.Packed.{packed, unpacked}
 use Rattle.state.specs.Unfit.{unfit, unfitNumber}
 use Rattle.state.proofs.Accepting.{Accepted, accepted-left}
 use Rattle.controller.specs.Run.{BusCycle}
-use Rattle.controller.specs.State.{State, state, step, run}
+use Rattle.controller.specs.State.{State, state, step, number, run, numbers}
 use Rattle.controller.proofs.Ranges.{stays-ranged}
-use Rattle.bus.specs.Cycles.{cyclesOf}
-use Rattle.bus.specs.Run.{Outputs, tooShort, runRefusal, refusalOf, toldRan, ranFrom, IsRun}
+use Rattle.bus.specs.Cycles.{cyclesOf, turns}
+use Rattle.bus.specs.Run.{Outputs, numberEntry, tooShort, runRefusal, refusalOf, toldRan, ranFrom, IsRun}
 use Rattle.bus.specs.Packed.{RunOn, RunOut}
 use Rattle.bus.specs.declared.run.Ran.{Ran}
 use Rattle.bus.specs.declared.run.Ran.the-variants.{After, Refused}
@@ -132,6 +132,11 @@ chip-is number s m {r} {left} e l = split (eqb number 0)
 pub run-is : {k : Numbers} {r r′ : Registers} {m cycles left : List ℕ} {o x : Outputs} → IsRun k r m cycles o (After r′) left x
     → state r′ left ≡ ranFrom k r m cycles
 run-is {k} {r} {m = m} {cycles = cycles} {o = o} f = chip-is (refusalOf k r m cycles o) (ranFrom k r m cycles) m (f .tells) (f .leaves)
+
+-- the numbers that its outputs tell are those that the cycles are refused with, each from the chip that the cycles before it left
+pub numbers-are : (k : Numbers) (s : State) (xs : List BusCycle) → map numberEntry (turns k s xs) ≡ numbers k s xs
+numbers-are k s [] = refl
+numbers-are k s (x ∷ xs) = ap (λ (l : List ℕ). number k s x ∷ l) (numbers-are k (step k s x) xs)
 
 -- ---- in range stays in range
 

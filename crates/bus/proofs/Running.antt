@@ -21,7 +21,7 @@ use Rattle.registers.specs.declared.Registers.{Registers}
 use Rattle.controller.specs.State.{State, state}
 use Rattle.controller.specs.Turn.{Turn}
 use Rattle.bus.specs.Cycles.{cyclesOf, turns}
-use Rattle.bus.specs.Run.{Outputs, numberOf, readOf, byteOf, recorded, tooShort, runRefusal, refusalOf, IsRun}
+use Rattle.bus.specs.Run.{Outputs, numberEntry, readEntry, byteEntry, answered, tooShort, runRefusal, refusalOf, IsRun}
 use Rattle.bus.specs.Filling.{putFrom, Filled}
 use Rattle.bus.specs.declared.run.Ran.the-variants.{After, Refused}
 use Rattle.bus.proofs.Playing.{cycles-count, turns-count}
@@ -52,9 +52,9 @@ in-front f ts out h =
     let e : 0 + length (map f ts) ≤ length out = rw length-map (omega arith) in
     rw zero-add at (sets-eq (map f ts) out 0 e)
 
-put-recorded : (ts : List Turn) (o : Outputs) → Room (length ts) o → putFrom o 0 ts ≡ recorded ts o
-put-recorded ts o h =
-    rw (in-front numberOf ts (o .numbers) (h .numbers-room), in-front readOf ts (o .reads) (h .reads-room), in-front byteOf ts (o .bytes) (h .bytes-room)) refl
+put-answered : (ts : List Turn) (o : Outputs) → Room (length ts) o → putFrom o 0 ts ≡ answered ts o
+put-answered ts o h =
+    rw (in-front numberEntry ts (o .numbers) (h .numbers-room), in-front readEntry ts (o .reads) (h .reads-room), in-front byteEntry ts (o .bytes) (h .bytes-room)) refl
 
 -- ---- the number, as the code finds it: it counts pairs of bytes
 
@@ -90,5 +90,5 @@ module _ (k : Numbers) (r : Registers) (m cycles : List ℕ) (o : Outputs) {c : 
       record {
         tells = rw (t, ap (λ (s : State). s .registers) (f .after)) refl;
         leaves = rw t (ap (λ (s : State). s .memory) (f .after));
-        answers = rw t (f .put ∙ put-recorded (turns k (state r m) (cyclesOf cycles)) o h);
+        answers = rw t (f .put ∙ put-answered (turns k (state r m) (cyclesOf cycles)) o h);
       }

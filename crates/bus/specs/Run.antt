@@ -29,18 +29,18 @@ abbrev pub outputs : List ℕ → List ℕ → List ℕ → Outputs
 outputs numbers reads bytes = record { numbers = numbers; reads = reads; bytes = bytes }
 
 -- the number that a cycle is refused with, 0 for none; 1 where it read a byte, else 0; and the byte, 0 where it read none
-abbrev pub numberOf : Turn → ℕ
-numberOf t = t .number
+abbrev pub numberEntry : Turn → ℕ
+numberEntry t = t .number
 
-abbrev pub readOf : Turn → ℕ
-readOf t = t .read
+abbrev pub readEntry : Turn → ℕ
+readEntry t = t .read
 
-abbrev pub byteOf : Turn → ℕ
-byteOf t = t .byte
+abbrev pub byteEntry : Turn → ℕ
+byteEntry t = t .byte
 
 -- the answers in front of the outputs: longer ones keep their rest
-abbrev pub recorded : List Turn → Outputs → Outputs
-recorded ts o = outputs (over (map numberOf ts) (o .numbers)) (over (map readOf ts) (o .reads)) (over (map byteOf ts) (o .bytes))
+abbrev pub answered : List Turn → Outputs → Outputs
+answered ts o = outputs (over (map numberEntry ts) (o .numbers)) (over (map readEntry ts) (o .reads)) (over (map byteEntry ts) (o .bytes))
 
 -- an output is shorter than the list of cycles
 unfoldable pub tooShort : ℕ → Outputs → Bool
@@ -69,4 +69,4 @@ ranFrom k r memory cycles = run k (state r memory) (cyclesOf cycles)
 pub record IsRun (k : Numbers) (r : Registers) (before cycles : List ℕ) (o : Outputs) (a : Ran) (left : List ℕ) (o′ : Outputs) : Type 0 where
   pub tells : toldRan a ≡ cond (eqb (refusalOf k r before cycles o) 0) (given (ranFrom k r before cycles .registers)) (refused (refusalOf k r before cycles o))
   pub leaves : left ≡ cond (eqb (refusalOf k r before cycles o) 0) (ranFrom k r before cycles .memory) before
-  pub answers : o′ ≡ cond (eqb (refusalOf k r before cycles o) 0) (recorded (turns k (state r before) (cyclesOf cycles)) o) o
+  pub answers : o′ ≡ cond (eqb (refusalOf k r before cycles o) 0) (answered (turns k (state r before) (cyclesOf cycles)) o) o

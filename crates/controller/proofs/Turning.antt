@@ -1,7 +1,7 @@
--- A turn, by the cycle's answer; and what it leaves is the chip after the cycle.
+-- A turn is the cycle's answer taken apart, and what it leaves is the chip after the cycle.
 -- Assumes nothing.
 use Prim.Native.Nat.{ℕ}
-use mathlib.Core.Path.{_≡_, _∙_, ap, sym}
+use mathlib.Core.Path.{_≡_, _∙_, ap}
 use mathlib.Core.List.{List}
 use Rattle.instructions.specs.declared.numbers.Numbers.{Numbers}
 use Rattle.registers.specs.declared.Registers.{Registers}
@@ -12,8 +12,8 @@ use Rattle.controller.specs.declared.cycle.Answer.{Answer}
 
 module _ {k : Numbers} {r : Registers} {m : List ℕ} {kind value : ℕ} {left : List ℕ} where
   -- whatever a cycle answers, its turn is that answer taken apart
-  pub turn-told : {a : Answer} → Cycled k r m kind value a left → (b : Answer) → a ≡ b → IsTurn k r m kind value (turnOf r (outcome b)) left
-  turn-told q b e = record { tells = ap (turnOf r) (ap outcome (sym e) ∙ q .tells); leaves = q .leaves }
+  pub turn-told : {a : Answer} → Cycled k r m kind value a left → IsTurn k r m kind value (turnOf r (outcome a)) left
+  turn-told q = record { tells = ap (turnOf r) (q .tells); leaves = q .leaves }
 
   pub turn-steps : {t : Turn} → IsTurn k r m kind value t left → state (t .registers) left ≡ step k (state r m) (kind, value)
   turn-steps {t} q =

@@ -1,13 +1,50 @@
 // One cycle for who plays many: its answer taken apart, with the registers after it whatever was answered.
+ghost use mathlib.Core.Path.{_≡_};
 ghost use Rattle.instructions.specs.Numbers.{numbers0713};
-ghost use Rattle.controller.specs.Turn.{turn, IsTurn};
+ghost use Rattle.controller.specs.Cycle.{outcome};
+ghost use Rattle.controller.specs.State.{afterBy};
+ghost use Rattle.controller.specs.Turn.{turn, readFlag, byteRead, IsTurn};
 use crate::cycle::Answer;
 use crate::cycle::cycle;
 use registers::Registers;
 
-// Plays one bus cycle on the KS0713, as `cycle` does, and answers the registers after it: a status read and a refused cycle change
-// none. `number` becomes the number that it is refused with, 0 for none; `read` 1 where it read a byte, else 0; `byte` the byte that
-// it read, 0 where it read none.
+// The registers after an answer: a status read and a refused cycle change none.
+fn registers_after(registers: Registers, answer: Answer) -> Registers
+    ensures { λ r. ⌜ r ≡ afterBy registers (outcome answer .registers) ⌝ }
+{
+    match answer {
+        Answer::Done(next) => next,
+        Answer::Status(_) => registers,
+        Answer::Read(next, _) => next,
+        Answer::Refused(_) => registers,
+    }
+}
+
+// What else an answer tells: its number, whether a byte was read, and the byte.
+fn tell(answer: Answer, number: &mut u8, read: &mut u8, byte: &mut u8)
+    ensures { λ _. ⌜ (now (number .exit) ≡ outcome answer .number) × (now (read .exit) ≡ readFlag (outcome answer .byte)) × (now (byte .exit) ≡ byteRead (outcome answer .byte)) ⌝ }
+{
+    *number = 0;
+    *read = 0;
+    *byte = 0;
+    match answer {
+        Answer::Done(_) => (),
+        Answer::Status(status) => {
+            *read = 1;
+            *byte = status;
+        }
+        Answer::Read(_, holder) => {
+            *read = 1;
+            *byte = holder;
+        }
+        Answer::Refused(refusal) => {
+            *number = refusal;
+        }
+    }
+}
+
+// Plays one bus cycle on the KS0713, as `cycle` does, and answers the registers after it. `number` becomes the number that it is
+// refused with, 0 for none; `read` 1 where it read a byte, else 0; `byte` the byte that it read, 0 where it read none.
 pub fn take_turn(
     registers: Registers,
     memory: &mut [u8],
@@ -19,30 +56,7 @@ pub fn take_turn(
 ) -> Registers
     ensures { λ r. ⌜ IsTurn numbers0713 registers (now (memory .entry)) kind value (turn r (now (number .exit)) (now (read .exit)) (now (byte .exit))) (now (memory .exit)) ⌝ }
 {
-    match cycle(registers, memory, kind, value) {
-        Answer::Done(next) => {
-            *number = 0;
-            *read = 0;
-            *byte = 0;
-            next
-        }
-        Answer::Status(status) => {
-            *number = 0;
-            *read = 1;
-            *byte = status;
-            registers
-        }
-        Answer::Read(next, holder) => {
-            *number = 0;
-            *read = 1;
-            *byte = holder;
-            next
-        }
-        Answer::Refused(refusal) => {
-            *number = refusal;
-            *read = 0;
-            *byte = 0;
-            registers
-        }
-    }
+    let answer = cycle(registers, memory, kind, value);
+    tell(answer, number, read, byte);
+    registers_after(registers, answer)
 }

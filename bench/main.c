@@ -153,7 +153,7 @@ int main(int argc, char **argv)
 {
     if (argc > 1) counting = strcmp(argv[1], "marks") ? READING : MARKING;
     if (counting == MARKING) printf("mark %016lx\n", (unsigned long)mark);
-    printf("\n## Instructions and time of each call\n");
+    printf("\n## Instructions%s of each call\n", counting == STEPPING ? " and time" : "");
     pictures();
     lists();
     through_state();

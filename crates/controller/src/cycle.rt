@@ -34,6 +34,7 @@ pub enum Answer {
     Refused(u8),
 }
 
+// The one where a test holds, else the other; so never more than both.
 fn choose(test: bool, yes: u8, no: u8) -> u8
     ensures { λ r. ⌜ (r ≡ cond test yes no) × (r ≤ yes + no) ⌝ }
 {

@@ -122,7 +122,7 @@ uint8_t panel_power_up(uint8_t state[PANEL_STATE]);
 /* Plays one bus cycle: the state and the memory become what they are after it. Where the cycle is a status read or a data read,
  * *read becomes 1 and *byte the byte that is read; after any other cycle both are as they were, so set *read to 0 before the call.
  * The first data read after an address set answers the old holder. Only a data write changes the memory, at most one byte of it.
- * Refuses with 1 (memory), 2 (state), 9, 3, 4. */
+ * Who plays many cycles at once takes bus_run (bus.h). Refuses with 1 (memory), 2 (state), 9, 3, 4. */
 uint8_t panel_cycle(uint8_t state[PANEL_STATE], uint8_t *memory, size_t memory_length, uint8_t kind, uint8_t value,
                     uint8_t *read, uint8_t *byte);
 

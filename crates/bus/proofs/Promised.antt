@@ -5,7 +5,7 @@ use Prim.Native.Nat.{ℕ, _*_, _<_}
 use mathlib.Core.Path.{_≡_, _∙_, refl, ap, sym, subst}
 use mathlib.Core.Logic.{_≢_, _⊎_, inl, inr, ⊎-elim}
 use mathlib.Core.Bool.{Bool, true, false, cond, not, _||_}
-use mathlib.Core.Option.{none, some}
+use mathlib.Core.Option.{some}
 use mathlib.Core.List.{List, [], _∷_, map}
 use native.Mathlib.Omega.{arith}
 use lib.ListN.{length}
@@ -16,7 +16,7 @@ use Rattle.instructions.specs.Told.{given, refused}
 use Rattle.instructions.specs.Numbers.{Sensible, numbers0713}
 use Rattle.instructions.specs.declared.numbers.Numbers.{Numbers}
 use Rattle.instructions.proofs.Sensible.{sensible0713}
-use Rattle.instructions.proofs.Telling.{apart, answerOf, given-one, not-given}
+use Rattle.instructions.proofs.Telling.{apart, answerOf, some-one, none-some, given-one, not-given}
 use Rattle.instructions.proofs.Answering.{if-split, if-both, number-number, refused-number, Silent, nothing-given}
 use Rattle.instructions.proofs.Cases.{split}
 use Rattle.instructions.proofs.Either.{either, or-true}
@@ -27,7 +27,7 @@ use Rattle.registers.specs.declared.Registers.{Registers}
 use Rattle.registers.proofs.InRange.{ranged, ranges}
 use Rattle.state.specs.Packed.{packed, unpacked}
 use Rattle.state.specs.Unfit.{unfit, unfitNumber}
-use Rattle.state.proofs.Accepting.{Accepted, accepted-left}
+use Rattle.state.proofs.Accepting.{unfit-some, Accepted, accepted-left}
 use Rattle.controller.specs.Run.{BusCycle}
 use Rattle.controller.specs.State.{State, state, step, number, run, numbers}
 use Rattle.controller.proofs.Ranges.{stays-ranged}
@@ -155,15 +155,6 @@ ran-silent : (a : Ran) → Silent (toldRan a)
 ran-silent (After r) = inl refl
 ran-silent (Refused n) = inr refl
 
-unfit-some : (b : Bool) → unfitNumber b ≢ 0
-unfit-some b = nowhere b wrongSize outOfRange 0 (λ e. omega arith) (λ e. omega arith)
-
-some-one : {x y : Registers} → some x ≡ some y → x ≡ y
-some-one e = cc
-
-not-some : {x : Registers} → none ≡ some x → ⊥
-not-some e = let z : _≡_ {A = ℕ} 0 1 = cc in omega arith
-
 module _ (s m cycles : List ℕ) (o : Outputs) where
   pub run-out-one : {s₁ s₂ m₁ m₂ : List ℕ} {o₁ o₂ : Outputs} {r₁ r₂ : ℕ} → RunOut s m cycles o s₁ m₁ o₁ r₁ → RunOut s m cycles o s₂ m₂ o₂ r₂
       → (s₁ ≡ s₂) × (m₁ ≡ m₂) × (o₁ ≡ o₂) × (r₁ ≡ r₂)
@@ -204,4 +195,4 @@ module _ (s m cycles : List ℕ) (o : Outputs) where
         after-ranged (After q) p n e = if-split (unfit s) p (λ t u. absurd (subst T (sym t ∙ a .0) tt))
             (λ t u. subst (λ (y : Registers). outside numbers0713 y ≡ false) (some-one e)
             (ranged numbers0713 q (stay-ranged numbers0713 sensible0713 (ranges numbers0713 (unpacked s) (a .1)) u)))
-        after-ranged (Refused q) p n e = absurd (not-some e)
+        after-ranged (Refused q) p n e = absurd (none-some e)

@@ -20,14 +20,20 @@ abbrev pub answerOf : {A B : Type 0} → (B → A) → (ℕ → A) → Told B �
 answerOf value number t = answerBy value number (t .number) (t .value)
 
 module _ {A : Type 0} where
+  pub some-one : {x y : A} → some x ≡ some y → x ≡ y
+  some-one e = cc
+
+  pub none-some : {x : A} → none ≡ some x → ⊥
+  none-some e = let z : _≡_ {A = ℕ} 0 1 = cc in omega arith
+
   pub given-one : {x y : A} → given x ≡ given y → x ≡ y
-  given-one e = let f = ap (λ t. t .value) e in cc
+  given-one e = some-one (ap (λ t. t .value) e)
 
   pub refused-one : {n m : ℕ} → refused {A = A} n ≡ refused m → n ≡ m
   refused-one e = ap (λ t. t .number) e
 
   pub not-given : {x : A} {n : ℕ} → refused n ≡ given x → ⊥
-  not-given {x} e = let f : none ≡ some x = ap (λ t. t .value) e in let z : _≡_ {A = ℕ} 0 1 = cc in omega arith
+  not-given e = none-some (ap (λ t. t .value) e)
 
   pub told-is : (t : Told A) {n : ℕ} {v : Option A} → t .number ≡ n → t .value ≡ v → t ≡ record { number = n; value = v }
   told-is t {n} e f = ap (λ (x : ℕ). record { number = x; value = t .value }) e ∙ ap (λ x. record { number = n; value = x }) f

@@ -4,7 +4,7 @@
 use Prim.Native.Nat.{ℕ, _≤_, _<_}
 use mathlib.Core.Path.{_≡_, _∙_, refl, ap, sym, subst}
 use mathlib.Core.Logic.{_≢_, inl, inr, ⊎-elim}
-use mathlib.Core.Bool.{Bool, false, cond, not, _&&_, _||_}
+use mathlib.Core.Bool.{false, cond, not, _&&_, _||_}
 use mathlib.Core.Option.{Option, none, some}
 use mathlib.Core.List.{List}
 use native.Mathlib.Omega.{arith}
@@ -44,7 +44,7 @@ use Rattle.planner.specs.Count.{toldCount}
 use Rattle.planner.specs.Sent.{updateRefusal, redrawRefusal, IsUpdate, IsRedraw}
 use Rattle.planner.specs.declared.count.Count.{Count}
 use Rattle.planner.specs.declared.count.Count.the-variants as count
-use Rattle.instructions.proofs.Exactly.{Exactly, then, both, same-number, past, nowhere, only}
+use Rattle.instructions.proofs.Exactly.{Exactly, then, both, same-number, past, only}
 use Rattle.planner.proofs.Exactly.{RightSize, ShortOutput, misfit-yes, misfit-no, wrong-size, right-size}
 use Rattle.instructions.proofs.Either.{or-left, or-right}
 use Rattle.planner.proofs.Scanning.{first-given}
@@ -56,12 +56,7 @@ use Rattle.state.specs.Unfit.{unfit, unfitNumber}
 use Rattle.panel.specs.Chip.{PowerUpOut, CycleOut, FrameOut, PowerOut, VoltageOut}
 use Rattle.panel.specs.Bytes.{named, WrittenIf, ReadOut, WriteOut}
 use Rattle.panel.specs.Pictures.{FirstOut, LengthOut, UpdateOut, RedrawOut}
-use Rattle.state.proofs.Accepting.{Accepted, packed-accepted, accepted-left}
-
--- ---- numbers
-
-unfit-some : (wrong : Bool) → unfitNumber wrong ≢ 0
-unfit-some wrong = nowhere wrong wrongSize outOfRange 0 (λ e. omega arith) (λ e. omega arith)
+use Rattle.state.proofs.Accepting.{unfit-some, Accepted, packed-accepted, accepted-left}
 
 -- ---- power-up
 

@@ -14,7 +14,7 @@ use lib.ListN.{length, length-append, length-map}
 use lib.Dec.{ltb, eqb}
 use borrow.Author.Tests.{ltb-true, ltb-false, lt-ltb, le-ltb, eqb-true}
 use Rattle.instructions.specs.Told.{given}
-use Rattle.instructions.proofs.Telling.{apart, answerOf}
+use Rattle.instructions.proofs.Telling.{apart, answerOf, some-one, none-some}
 use Rattle.instructions.proofs.Answering.{refused-number}
 use Rattle.controller.specs.Run.{BusCycle}
 use Rattle.streams.specs.Picture.{shown, Same}
@@ -108,12 +108,6 @@ found-refused : (n : ℕ) (a : Found) → n ≢ 0 → Exactly (a ≡ found.Refus
 found-refused n (found.At p c) h = (λ e. ap (λ x. toldFound x .number) e, λ e. absurd (h (sym e)))
 found-refused n found.Nothing h = (λ e. ap (λ x. toldFound x .number) e, λ e. absurd (h (sym e)))
 found-refused n (found.Refused k) h = (λ e. ap (λ x. toldFound x .number) e, λ e. ap found.Refused e)
-
-none-some : {A : Type 0} {x : A} → none ≡ some x → ⊥
-none-some e = absurd (let z : _≡_ {A = ℕ} 0 1 = cc in omega arith)
-
-some-one : {A : Type 0} {x y : A} → some x ≡ some y → x ≡ y
-some-one e = cc
 
 -- a refusal carries a number that is not 0, and leaves both outputs as they were
 pub sent-refused-leaves : {number n : ℕ} {s : List BusCycle} {out kinds o k : List ℕ}

@@ -2,16 +2,24 @@
 -- Assumes nothing.
 use Prim.Native.Nat.{ℕ}
 use mathlib.Core.Path.{_≡_, _∙_, refl, ap, sym, subst}
-use mathlib.Core.Bool.{false}
+use mathlib.Core.Logic.{_≢_}
+use mathlib.Core.Bool.{Bool, false}
 use mathlib.Core.Option.{Option, none, some}
 use mathlib.Core.List.{List}
+use native.Mathlib.Omega.{arith}
+use Rattle.instructions.specs.Refusal.{wrongSize, outOfRange}
 use Rattle.instructions.specs.Answers.{leftBy}
 use Rattle.instructions.specs.declared.numbers.Numbers.{Numbers}
+use Rattle.instructions.proofs.Exactly.{nowhere}
 use Rattle.registers.specs.Registers.{outside}
 use Rattle.registers.specs.declared.Registers.{Registers}
 use Rattle.state.specs.Packed.{packed, unpacked}
-use Rattle.state.specs.Unfit.{unfit}
+use Rattle.state.specs.Unfit.{unfit, unfitNumber}
 use Rattle.state.proofs.Packing.{registers-again, packed-fit}
+
+-- an unfit state is refused with a number
+pub unfit-some : (wrong : Bool) → unfitNumber wrong ≢ 0
+unfit-some wrong = nowhere wrong wrongSize outOfRange 0 (λ e. omega arith) (λ e. omega arith)
 
 -- the bytes stand for registers, and these are in range
 abbrev pub Accepted : Numbers → List ℕ → Type 0

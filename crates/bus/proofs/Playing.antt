@@ -7,7 +7,7 @@ use native.Mathlib.Numerals.{add-one}
 use native.Mathlib.Omega.{arith}
 use lib.ListN.{length, getD, drop, length-drop}
 use lib.Seq.{drop-cons}
-use Rattle.instructions.specs.declared.numbers.Numbers.{Numbers}
+use Rattle.paper.specs.declared.sheet.Sheet.{Sheet}
 use Rattle.registers.specs.declared.Registers.{Registers}
 use Rattle.controller.specs.Run.{BusCycle}
 use Rattle.controller.specs.State.{State, state, step, run}
@@ -42,7 +42,7 @@ cycles-count [] = refl
 cycles-count (kind ∷ []) = refl
 cycles-count (kind ∷ value ∷ rest) = let e = cycles-count rest in omega arith
 
-pub turns-count : (k : Numbers) (s : State) (xs : List BusCycle) → length (turns k s xs) ≡ length xs
+pub turns-count : (k : Sheet) (s : State) (xs : List BusCycle) → length (turns k s xs) ≡ length xs
 turns-count k s [] = refl
 turns-count k s (x ∷ xs) = ap suc (turns-count k (step k s x) xs)
 
@@ -57,18 +57,18 @@ cycles-at bytes i h =
 -- ---- a turn
 
 -- what a cycle answers goes into the outputs at entry i
-pub turn-put : {k : Numbers} {r : Registers} {m left : List ℕ} {kind value : ℕ} {t : Turn} (o : Outputs) (i : ℕ) → IsTurn k r m kind value t left
+pub turn-put : {k : Sheet} {r : Registers} {m left : List ℕ} {kind value : ℕ} {t : Turn} (o : Outputs) (i : ℕ) → IsTurn k r m kind value t left
     → TurnPut k (state r m) (kind, value) o i (state (t .registers) left) (putAt o i t)
 turn-put o i q = record { after = turn-steps q; put = ap (putAt o i) (q .tells) }
 
 -- ---- the whole list
 
 -- what is left from index i on, played and put now, gives this chip and these outputs
-pub record Left (k : Numbers) (s : State) (o : Outputs) (i : ℕ) (bytes : List ℕ) (s₀ : State) (o₀ : Outputs) : Type 0 where
+pub record Left (k : Sheet) (s : State) (o : Outputs) (i : ℕ) (bytes : List ℕ) (s₀ : State) (o₀ : Outputs) : Type 0 where
   pub played : run k s (cyclesOf (drop (2 * i) bytes)) ≡ run k s₀ (cyclesOf bytes)
   pub put : putFrom o i (turns k s (cyclesOf (drop (2 * i) bytes))) ≡ putFrom o₀ 0 (turns k s₀ (cyclesOf bytes))
 
-module _ {k : Numbers} {s : State} {o : Outputs} {i : ℕ} {bytes : List ℕ} {s₀ : State} {o₀ : Outputs} (left : Left k s o i bytes s₀ o₀) where
+module _ {k : Sheet} {s : State} {o : Outputs} {i : ℕ} {bytes : List ℕ} {s₀ : State} {o₀ : Outputs} (left : Left k s o i bytes s₀ o₀) where
   pub left-next : {s′ : State} {o′ : Outputs} → i < length bytes / 2 → TurnPut k s (getD bytes (2 * i) 0, getD bytes (2 * i + 1) 0) o i s′ o′
       → Left k s′ o′ (i + 1) bytes s₀ o₀
   left-next {s′} {o′} h t = record {

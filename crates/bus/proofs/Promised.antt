@@ -11,17 +11,17 @@ use native.Mathlib.Omega.{arith}
 use lib.ListN.{length}
 use lib.Dec.{T, ltb, eqb}
 use borrow.Author.Tests.{ltb-true, lt-ltb, eqb-true, eqb-false, eq-eqb, ne-eqb, not-true, not-false}
-use Rattle.instructions.specs.Refusal.{wrongSize, outOfRange, shortOutput}
-use Rattle.instructions.specs.Told.{given, refused}
-use Rattle.instructions.specs.Numbers.{Sensible, numbers0713}
-use Rattle.instructions.specs.declared.numbers.Numbers.{Numbers}
-use Rattle.instructions.proofs.Sensible.{sensible0713}
-use Rattle.instructions.proofs.Telling.{apart, answerOf, some-one, none-some, given-one, not-given}
-use Rattle.instructions.proofs.Answering.{if-split, if-both, number-number, refused-number, Silent, nothing-given}
-use Rattle.instructions.proofs.Cases.{split}
-use Rattle.instructions.proofs.Either.{either, or-true}
-use Rattle.instructions.proofs.Exactly.{Exactly, then, both, same-number, here, past, nowhere}
-use Rattle.instructions.specs.Answers.{leftBy}
+use Rattle.paper.specs.Refusal.{wrongSize, outOfRange, shortOutput}
+use Rattle.paper.specs.Told.{given, refused}
+use Rattle.paper.specs.Sheet.{Sensible, sheet0713}
+use Rattle.paper.specs.declared.sheet.Sheet.{Sheet}
+use Rattle.paper.proofs.Sensible.{sensible0713}
+use Rattle.paper.proofs.Telling.{apart, answerOf, some-one, none-some, given-one, not-given}
+use Rattle.paper.proofs.Answering.{if-split, if-both, number-number, refused-number, Silent, nothing-given}
+use Rattle.paper.proofs.Cases.{split}
+use Rattle.paper.proofs.Either.{either, or-true}
+use Rattle.paper.proofs.Exactly.{Exactly, then, both, same-number, here, past, nowhere}
+use Rattle.paper.specs.Answers.{leftBy}
 use Rattle.registers.specs.Registers.{outside, Ranged}
 use Rattle.registers.specs.declared.Registers.{Registers}
 use Rattle.registers.proofs.InRange.{ranged, ranges}
@@ -43,7 +43,7 @@ ran-back : (a : Ran) → answerOf After Refused (toldRan a) ≡ a
 ran-back (After r) = refl
 ran-back (Refused n) = refl
 
-module _ {k : Numbers} {r : Registers} {m cycles : List ℕ} {o : Outputs} where
+module _ {k : Sheet} {r : Registers} {m cycles : List ℕ} {o : Outputs} where
   pub run-one : {a b : Ran} {left right : List ℕ} {x y : Outputs} → IsRun k r m cycles o a left x → IsRun k r m cycles o b right y
       → (a ≡ b) × (left ≡ right) × (x ≡ y)
   run-one {a} {b} f g =
@@ -76,7 +76,7 @@ refused-with : (n : ℕ) (a : Ran) → n ≢ 0 → Exactly (a ≡ Refused n) (to
 refused-with n (After r) h = (λ e. ap (λ x. toldRan x .number) e, λ e. absurd (h (sym e)))
 refused-with n (Refused k) h = (λ e. ap (λ x. toldRan x .number) e, λ e. ap Refused e)
 
-module _ {k : Numbers} {r : Registers} {m cycles : List ℕ} {o : Outputs} {a : Ran} {left : List ℕ} {x : Outputs} (f : IsRun k r m cycles o a left x) where
+module _ {k : Sheet} {r : Registers} {m cycles : List ℕ} {o : Outputs} {a : Ran} {left : List ℕ} {x : Outputs} (f : IsRun k r m cycles o a left x) where
   abbrev wrong : Bool
   wrong = not (eqb (length m) (9 * k .width))
 
@@ -129,18 +129,18 @@ chip-is number s m {r} {left} e l = split (eqb number 0)
     (λ t. ap (λ (x : Registers). state x left) (given-one (e ∙ rw t refl)) ∙ ap (state (s .registers)) (l ∙ rw t refl))
     (λ t. absurd (not-given {n = number} (sym (e ∙ rw t refl))))
 
-pub run-is : {k : Numbers} {r r′ : Registers} {m cycles left : List ℕ} {o x : Outputs} → IsRun k r m cycles o (After r′) left x
+pub run-is : {k : Sheet} {r r′ : Registers} {m cycles left : List ℕ} {o x : Outputs} → IsRun k r m cycles o (After r′) left x
     → state r′ left ≡ ranFrom k r m cycles
 run-is {k} {r} {m = m} {cycles = cycles} {o = o} f = chip-is (refusalOf k r m cycles o) (ranFrom k r m cycles) m (f .tells) (f .leaves)
 
 -- the numbers that its outputs tell are those that the cycles are refused with, each from the chip that the cycles before it left
-pub numbers-are : (k : Numbers) (s : State) (xs : List BusCycle) → map numberEntry (turns k s xs) ≡ numbers k s xs
+pub numbers-are : (k : Sheet) (s : State) (xs : List BusCycle) → map numberEntry (turns k s xs) ≡ numbers k s xs
 numbers-are k s [] = refl
 numbers-are k s (x ∷ xs) = ap (λ (l : List ℕ). number k s x ∷ l) (numbers-are k (step k s x) xs)
 
 -- ---- in range stays in range
 
-module _ (k : Numbers) (g : Sensible k) where
+module _ (k : Sheet) (g : Sensible k) where
   run-ranged : (s : State) (xs : List BusCycle) → Ranged k (s .registers) → Ranged k (run k s xs .registers)
   run-ranged s [] h = h
   run-ranged s (x ∷ xs) h = run-ranged (step k s x) xs (stays-ranged k g (s .registers) (s .memory) (x .0) (x .1) h)
@@ -168,13 +168,13 @@ module _ (s m cycles : List ℕ) (o : Outputs) where
 
   module _ {s′ m′ : List ℕ} {o′ : Outputs} {r : ℕ} (f : RunOut s m cycles o s′ m′ o′ r) where
     -- 0 is answered exactly if the state stands for registers in range, the memory fits, and the outputs have room
-    pub run-out-0 : Exactly (r ≡ 0) ((unfit s ≡ false) × (refusalOf numbers0713 (unpacked s) m cycles o ≡ 0))
-    run-out-0 = then (same-number (f .number ∙ told)) (past (unfit s) _ _ 0 (unfit-some (not (eqb (length m) (9 * numbers0713 .width)))))
+    pub run-out-0 : Exactly (r ≡ 0) ((unfit s ≡ false) × (refusalOf sheet0713 (unpacked s) m cycles o ≡ 0))
+    run-out-0 = then (same-number (f .number ∙ told)) (past (unfit s) _ _ 0 (unfit-some (not (eqb (length m) (9 * sheet0713 .width)))))
       where
-        told : toldRan (f .answer) .number ≡ cond (unfit s) (unfitNumber (not (eqb (length m) (9 * numbers0713 .width)))) (refusalOf numbers0713 (unpacked s) m cycles o)
+        told : toldRan (f .answer) .number ≡ cond (unfit s) (unfitNumber (not (eqb (length m) (9 * sheet0713 .width)))) (refusalOf sheet0713 (unpacked s) m cycles o)
         told = if-split (unfit s) (f .promised)
             (λ t p. ap (λ a. toldRan a .number) (p .0) ∙ rw t refl)
-            (λ t p. ap (λ a. a .number) (p .tells) ∙ number-number (refusalOf numbers0713 (unpacked s) m cycles o) (ranFrom numbers0713 (unpacked s) m cycles .registers) ∙ rw t refl)
+            (λ t p. ap (λ a. a .number) (p .tells) ∙ number-number (refusalOf sheet0713 (unpacked s) m cycles o) (ranFrom sheet0713 (unpacked s) m cycles .registers) ∙ rw t refl)
 
     -- a refusal leaves state, memory and outputs
     pub run-out-refused-leaves : r ≢ 0 → (s′ ≡ s) × (m′ ≡ m) × (o′ ≡ o)
@@ -188,11 +188,11 @@ module _ (s m cycles : List ℕ) (o : Outputs) where
         by-answer (Refused x) n p = if-split (unfit s) p (λ t q. (q .1, q .2)) (λ t q. let e = run-refused-leaves q in (e .1, e .2))
 
     -- a state that is accepted stays one
-    pub run-out-again : Accepted numbers0713 s → Accepted numbers0713 s′
-    run-out-again a = accepted-left numbers0713 s (toldRan (f .answer) .value) a (after-ranged (f .answer) (f .promised)) (f .left)
+    pub run-out-again : Accepted sheet0713 s → Accepted sheet0713 s′
+    run-out-again a = accepted-left sheet0713 s (toldRan (f .answer) .value) a (after-ranged (f .answer) (f .promised)) (f .left)
       where
-        after-ranged : (x : Ran) → RunOn s m cycles o x m′ o′ → (n : Registers) → toldRan x .value ≡ some n → outside numbers0713 n ≡ false
+        after-ranged : (x : Ran) → RunOn s m cycles o x m′ o′ → (n : Registers) → toldRan x .value ≡ some n → outside sheet0713 n ≡ false
         after-ranged (After q) p n e = if-split (unfit s) p (λ t u. absurd (subst T (sym t ∙ a .0) tt))
-            (λ t u. subst (λ (y : Registers). outside numbers0713 y ≡ false) (some-one e)
-            (ranged numbers0713 q (stay-ranged numbers0713 sensible0713 (ranges numbers0713 (unpacked s) (a .1)) u)))
+            (λ t u. subst (λ (y : Registers). outside sheet0713 y ≡ false) (some-one e)
+            (ranged sheet0713 q (stay-ranged sheet0713 sensible0713 (ranges sheet0713 (unpacked s) (a .1)) u)))
         after-ranged (Refused q) p n e = absurd (none-some e)

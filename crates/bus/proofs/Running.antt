@@ -12,10 +12,10 @@ use lib.ListN.{length, length-map}
 use lib.Dec.{ltb, eqb}
 use lib.Seq.{sets, sets-eq}
 use borrow.Author.Tests.{ltb-false, eq-eqb, ne-eqb}
-use Rattle.instructions.specs.Over.{over}
-use Rattle.instructions.specs.declared.numbers.Numbers.{Numbers}
-use Rattle.instructions.proofs.Either.{or-left, or-right}
-use Rattle.instructions.proofs.Exactly.{past}
+use Rattle.paper.specs.Over.{over}
+use Rattle.paper.specs.declared.sheet.Sheet.{Sheet}
+use Rattle.paper.proofs.Either.{or-left, or-right}
+use Rattle.paper.proofs.Exactly.{past}
 use Rattle.registers.specs.Registers.{outside}
 use Rattle.registers.specs.declared.Registers.{Registers}
 use Rattle.controller.specs.State.{State, state}
@@ -58,7 +58,7 @@ put-answered ts o h =
 
 -- ---- the number, as the code finds it: it counts pairs of bytes
 
-module _ (k : Numbers) (r : Registers) (m cycles : List ℕ) (o : Outputs) {c : Numbers} {n : ℕ} (same : c ≡ k)
+module _ (k : Sheet) (r : Registers) (m cycles : List ℕ) (o : Outputs) {c : Sheet} {n : ℕ} (same : c ≡ k)
     (found : n ≡ runRefusal c r (length m) (ltb (length (o .numbers)) (length cycles / 2) || ltb (length (o .reads)) (length cycles / 2) || ltb (length (o .bytes)) (length cycles / 2))) where
   number-is : n ≡ refusalOf k r m cycles o
   unfolding tooShort

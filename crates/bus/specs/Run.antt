@@ -6,10 +6,10 @@ use mathlib.Core.Bool.{Bool, cond, not, _||_}
 use mathlib.Core.List.{List, map}
 use lib.ListN.{length}
 use lib.Dec.{ltb, eqb}
-use Rattle.instructions.specs.Refusal.{wrongSize, outOfRange, shortOutput}
-use Rattle.instructions.specs.Told.{Told, given, refused}
-use Rattle.instructions.specs.Over.{over}
-use Rattle.instructions.specs.declared.numbers.Numbers.{Numbers}
+use Rattle.paper.specs.Refusal.{wrongSize, outOfRange, shortOutput}
+use Rattle.paper.specs.Told.{Told, given, refused}
+use Rattle.paper.specs.Over.{over}
+use Rattle.paper.specs.declared.sheet.Sheet.{Sheet}
 use Rattle.registers.specs.Registers.{outside}
 use Rattle.registers.specs.declared.Registers.{Registers}
 use Rattle.controller.specs.State.{State, state, run}
@@ -49,11 +49,11 @@ tooShort n o = ltb (length (o .numbers)) n || ltb (length (o .reads)) n || ltb (
 -- ---- the whole list
 
 -- the number that a run is refused with, 0 for none: 1 for the memory, 2 for a register, 5 for an output, in this order
-unfoldable pub runRefusal : Numbers → Registers → ℕ → Bool → ℕ
+unfoldable pub runRefusal : Sheet → Registers → ℕ → Bool → ℕ
 runRefusal k r memory short =
     cond (not (eqb memory (9 * k .width))) wrongSize (cond (outside k r) outOfRange (cond short shortOutput 0))
 
-abbrev pub refusalOf : Numbers → Registers → List ℕ → List ℕ → Outputs → ℕ
+abbrev pub refusalOf : Sheet → Registers → List ℕ → List ℕ → Outputs → ℕ
 refusalOf k r memory cycles o = runRefusal k r (length memory) (tooShort (length (cyclesOf cycles)) o)
 
 -- an answer as the paper tells it
@@ -62,11 +62,11 @@ toldRan (After r) = given r
 toldRan (Refused n) = refused n
 
 -- what is played: the cycles of the list from the registers r and a memory
-abbrev pub ranFrom : Numbers → Registers → List ℕ → List ℕ → State
+abbrev pub ranFrom : Sheet → Registers → List ℕ → List ℕ → State
 ranFrom k r memory cycles = run k (state r memory) (cyclesOf cycles)
 
 -- what a run promises: the registers and the memory after the cycles and each one's answer; a refusal leaves memory and outputs
-pub record IsRun (k : Numbers) (r : Registers) (before cycles : List ℕ) (o : Outputs) (a : Ran) (left : List ℕ) (o′ : Outputs) : Type 0 where
+pub record IsRun (k : Sheet) (r : Registers) (before cycles : List ℕ) (o : Outputs) (a : Ran) (left : List ℕ) (o′ : Outputs) : Type 0 where
   pub tells : toldRan a ≡ cond (eqb (refusalOf k r before cycles o) 0) (given (ranFrom k r before cycles .registers)) (refused (refusalOf k r before cycles o))
   pub leaves : left ≡ cond (eqb (refusalOf k r before cycles o) 0) (ranFrom k r before cycles .memory) before
   pub answers : o′ ≡ cond (eqb (refusalOf k r before cycles o) 0) (answered (turns k (state r before) (cyclesOf cycles)) o) o

@@ -3,7 +3,7 @@ ghost use Rattle.bus.specs.Run.{outputs};
 ghost use Rattle.bus.specs.Packed.{RunOn, RunOut};
 use crate::run::Ran;
 use crate::run::run;
-use instructions::numbers::ks0713;
+use paper::sheet::ks0713;
 use state::packed::State;
 use state::packed::pack;
 use state::packed::unpack;

@@ -2,17 +2,17 @@
 ghost use mathlib.Core.Path.{_≡_};
 ghost use Prim.Native.Nat.{_/_, _≤_, _<_};
 ghost use lib.ListN.{length};
-ghost use Rattle.instructions.specs.Numbers.{Sensible, numbers0713};
+ghost use Rattle.paper.specs.Sheet.{Sensible, sheet0713};
 ghost use Rattle.controller.specs.State.{state};
 ghost use Rattle.bus.specs.Cycles.{cyclesOf};
 ghost use Rattle.bus.specs.Run.{outputs, runRefusal, IsRun};
 ghost use Rattle.bus.specs.Filling.{TurnPut, Filled};
 use controller::turn::take_turn;
-use instructions::numbers::Numbers;
-use instructions::numbers::ks0713;
-use instructions::refusal::OUT_OF_RANGE;
-use instructions::refusal::SHORT_OUTPUT;
-use instructions::refusal::WRONG_SIZE;
+use paper::refusal::OUT_OF_RANGE;
+use paper::refusal::SHORT_OUTPUT;
+use paper::refusal::WRONG_SIZE;
+use paper::sheet::Sheet;
+use paper::sheet::ks0713;
 use registers::Registers;
 use registers::outside_range;
 
@@ -34,7 +34,7 @@ fn turn_at(
     bytes: &mut [u8],
 ) -> Registers
     requires { ⌜ (i < length (now numbers)) × (i < length (now reads)) × (i < length (now bytes)) ⌝ }
-    ensures { λ r. ⌜ TurnPut numbers0713 (state registers (now (memory .entry))) (kind, value) (outputs (now (numbers .entry)) (now (reads .entry)) (now (bytes .entry))) i
+    ensures { λ r. ⌜ TurnPut sheet0713 (state registers (now (memory .entry))) (kind, value) (outputs (now (numbers .entry)) (now (reads .entry)) (now (bytes .entry))) i
         (state r (now (memory .exit))) (outputs (now (numbers .exit)) (now (reads .exit)) (now (bytes .exit))) ⌝ }
 {
     take_turn(
@@ -58,7 +58,7 @@ fn play_all(
     bytes: &mut [u8],
 ) -> Registers
     requires { ⌜ (length (now cycles) / 2 ≤ length (now numbers)) × (length (now cycles) / 2 ≤ length (now reads)) × (length (now cycles) / 2 ≤ length (now bytes)) ⌝ }
-    ensures { λ r. ⌜ Filled numbers0713 (state registers (now (memory .entry))) (cyclesOf (now (cycles .entry))) (outputs (now (numbers .entry)) (now (reads .entry)) (now (bytes .entry))) 0
+    ensures { λ r. ⌜ Filled sheet0713 (state registers (now (memory .entry))) (cyclesOf (now (cycles .entry))) (outputs (now (numbers .entry)) (now (reads .entry)) (now (bytes .entry))) 0
         (state r (now (memory .exit))) (outputs (now (numbers .exit)) (now (reads .exit)) (now (bytes .exit))) ⌝ }
 {
     let mut after = registers;
@@ -80,7 +80,7 @@ fn play_all(
 }
 
 // The number that a run is refused with, 0 for none.
-fn refusal_of(chip: Numbers, registers: Registers, memory: usize, short: bool) -> u8
+fn refusal_of(chip: Sheet, registers: Registers, memory: usize, short: bool) -> u8
     requires { ⌜ Sensible chip ⌝ }
     ensures { λ n. ⌜ n ≡ runRefusal chip registers memory short ⌝ }
 {
@@ -109,7 +109,7 @@ pub fn run(
     reads: &mut [u8],
     bytes: &mut [u8],
 ) -> Ran
-    ensures { λ a. ⌜ IsRun numbers0713 registers (now (memory .entry)) (now (cycles .entry)) (outputs (now (numbers .entry)) (now (reads .entry)) (now (bytes .entry)))
+    ensures { λ a. ⌜ IsRun sheet0713 registers (now (memory .entry)) (now (cycles .entry)) (outputs (now (numbers .entry)) (now (reads .entry)) (now (bytes .entry)))
         a (now (memory .exit)) (outputs (now (numbers .exit)) (now (reads .exit)) (now (bytes .exit))) ⌝ }
 {
     let count = cycles.len() / 2;

@@ -8,10 +8,10 @@ use mathlib.Core.List.{List}
 use lib.ListN.{length}
 use lib.Dec.{ltb, eqb}
 use borrow.Author.Tests.{eq-eqb}
-use Rattle.instructions.specs.Told.{given}
-use Rattle.instructions.specs.Numbers.{Sensible}
+use Rattle.paper.specs.Told.{given}
+use Rattle.paper.specs.Sheet.{Sensible}
 use Rattle.instructions.specs.Read.{readOf}
-use Rattle.instructions.specs.declared.numbers.Numbers.{Numbers}
+use Rattle.paper.specs.declared.sheet.Sheet.{Sheet}
 use Rattle.instructions.specs.declared.instruction.Instruction.{Instruction}
 use Rattle.instructions.proofs.Fits.{read-fits}
 use Rattle.registers.specs.Registers.{Ranged, outside}
@@ -27,7 +27,7 @@ use Rattle.controller.proofs.Ranges.{executed-ranged, executed-pin, sta
 
 -- ---- no number before 4
 
-module _ (k : Numbers) (s : State) (kind value : ℕ) where
+module _ (k : Sheet) (s : State) (kind value : ℕ) where
   passes : length (s .memory) ≡ 9 * k .width → outside k (s .registers) ≡ false → malformed kind value ≡ false → heldLow (s .registers) kind ≡ false
       → refusal k (length (s .memory)) (s .registers) kind value ≡ 0
   unfolding refusal
@@ -43,7 +43,7 @@ module _ (k : Numbers) (s : State) (kind value : ℕ) where
   carried-out e = (rw e, rw e)
 
 -- with the pin high, whatever is a cycle
-module _ {k : Numbers} {s : State} (h : Restartable k s) (kind value : ℕ) (e : malformed kind value ≡ false) where
+module _ {k : Sheet} {s : State} (h : Restartable k s) (kind value : ℕ) (e : malformed kind value ≡ false) where
   clear : CarriedOut k s kind value
   clear = carried-out k s kind value (passes k s kind value (h .long) (h .ranged) e (rw (h .high)))
 
@@ -54,20 +54,20 @@ module _ {k : Numbers} {s : State} (h : Restartable k s) (kind value : ℕ) (e :
   keeps = clear .1
 
 -- with the pin low or high, a kind that is not 0, 1 or 3
-pub unheld : (k : Numbers) (s : State) (kind : ℕ) → length (s .memory) ≡ 9 * k .width → outside k (s .registers) ≡ false → malformed kind 0 ≡ false
+pub unheld : (k : Sheet) (s : State) (kind : ℕ) → length (s .memory) ≡ 9 * k .width → outside k (s .registers) ≡ false → malformed kind 0 ≡ false
     → ltb kind 2 || eqb kind 3 ≡ false → CarriedOut k s kind 0
 unheld k s kind long ranged formed free = carried-out k s kind 0 (passes k s kind 0 long ranged formed (rw free (both-false (s .registers .«pin_low»))))
 
 -- ---- what is done
 
 -- an answer that gives registers
-pub does : (k : Numbers) (s : State) (x : BusCycle) (r : Registers) (m : List ℕ) → answer k (s .registers) (s .memory) (x .0) (x .1) ≡ done r
+pub does : (k : Sheet) (s : State) (x : BusCycle) (r : Registers) (m : List ℕ) → answer k (s .registers) (s .memory) (x .0) (x .1) ≡ done r
     → memoryAfter k (s .registers) (s .memory) (x .0) (x .1) ≡ m → (number k s x ≡ 0) × (step k s x ≡ state r m)
 does k s x r m e f =
     (ap (λ o. o .number) e, ap (λ o. state (afterBy (s .registers) (o .registers)) (memoryAfter k (s .registers) (s .memory) (x .0) (x .1))) e ∙ ap (state r) f)
 
 -- an instruction byte that is read as i, with whatever is awaited
-pub acts : (k : Numbers) → Sensible k → (s : State) (i : Instruction) (b : ℕ) → Restartable k s → readOf k (s .registers .awaited) b ≡ given i
+pub acts : (k : Sheet) → Sensible k → (s : State) (i : Instruction) (b : ℕ) → Restartable k s → readOf k (s .registers .awaited) b ≡ given i
     → (number k s (0, b) ≡ 0) × (step k s (0, b) ≡ state (executed (s .registers) i) (s .memory)) × Restartable k (step k s (0, b))
 unfolding carried kept
 acts k g s i b h e =
@@ -83,7 +83,7 @@ acts k g s i b h e =
     )
 
 -- a data write, wherever the column stands
-pub writes : (k : Numbers) → Sensible k → (s : State) (b : ℕ) → Restartable k s
+pub writes : (k : Sheet) → Sensible k → (s : State) (b : ℕ) → Restartable k s
     → (number k s (1, b) ≡ 0)
     × (step k s (1, b) ≡ state (written (k .width) (s .registers) b) (stored (k .width) (s .memory) (s .registers .page) (s .registers .column .0) b))
     × Restartable k (step k s (1, b))

@@ -1,4 +1,4 @@
--- The controller keeps the laws that layers above use, for any sensible numbers: a chip to update, and a chip to redraw. What ready
+-- The controller keeps the laws that layers above use, for any sensible sheet: a chip to update, and a chip to redraw. What ready
 -- and restartable mean of it is exactly what demand 3 supposes, by definition (specs/State.antt).
 -- Assumes nothing.
 use Prim.Native.Nat.{ℕ, _+_, _<_}
@@ -6,16 +6,16 @@ use mathlib.Core.Path.{_≡_, _∙_, refl, ap, sym, subst}
 use mathlib.Core.Bool.{Bool, cond}
 use native.Mathlib.Omega.{arith}
 use native.Mathlib.Numerals.{add-one}
-use Rattle.instructions.specs.Told.{given}
-use Rattle.instructions.specs.Numbers.{Sensible, numbers0713}
+use Rattle.paper.specs.Told.{given}
+use Rattle.paper.specs.Sheet.{Sensible, sheet0713}
 use Rattle.instructions.specs.Write.{writeOf}
 use Rattle.instructions.specs.Read.{readOf, awaitedFor}
-use Rattle.instructions.specs.declared.numbers.Numbers.{Numbers}
+use Rattle.paper.specs.declared.sheet.Sheet.{Sheet}
 use Rattle.instructions.specs.declared.instruction.Awaited.{Awaited}
 use Rattle.instructions.specs.declared.instruction.Awaited.the-variants as awaited
 use Rattle.instructions.specs.declared.instruction.Instruction.{Instruction}
 use Rattle.instructions.specs.declared.instruction.Instruction.the-variants.{ColumnLow, ColumnHigh, ContrastNext, ContrastValue, IndicatorOff, IndicatorValue, Page, Nop}
-use Rattle.instructions.proofs.Sensible.{sensible0713}
+use Rattle.paper.proofs.Sensible.{sensible0713}
 use Rattle.instructions.proofs.Fields.{field-given}
 use Rattle.instructions.proofs.ReadBack.{read-back}
 use Rattle.registers.specs.Registers.{column, withContrast, withIndicator, withIndicatorValue, withAwaited}
@@ -33,7 +33,7 @@ viewOf s = record { page = s .registers .page; column = s .registers .column .0;
 
 -- ---- one instruction byte, by what it is the byte of
 
-module _ (k : Numbers) (g : Sensible k) (s : State) where
+module _ (k : Sheet) (g : Sensible k) (s : State) where
   -- accepted, ready stays, and the registers are as executed
   abbrev pub Obeyed : Instruction → ℕ → Type 0
   Obeyed i b = (number k s (0, b) ≡ 0) × (step k s (0, b) ≡ state (executed (s .registers) i) (s .memory)) × Restartable k (step k s (0, b))
@@ -58,12 +58,12 @@ module _ (k : Numbers) (g : Sensible k) (s : State) where
       record { restartable = e .2; quiet = ap (λ t. t .registers .awaited) (e .1) ∙ h .quiet }
 
 -- ready stays where the instruction leaves what is awaited
-pub still : (k : Numbers) (s : State) (i : Instruction) (b : ℕ) (g : Sensible k) → Obeyed k g s i b → executed (s .registers) i .awaited ≡ awaited.Nothing → Ready k (step k s (0, b))
+pub still : (k : Sheet) (s : State) (i : Instruction) (b : ℕ) (g : Sensible k) → Obeyed k g s i b → executed (s .registers) i .awaited ≡ awaited.Nothing → Ready k (step k s (0, b))
 still k s i b g e q = record { restartable = e .2; quiet = ap (λ t. t .registers .awaited) (e .1) ∙ q }
 
 -- ---- a chip to update
 
-abbrev pub chipOf : (k : Numbers) → Sensible k → Chip (k .width)
+abbrev pub chipOf : (k : Sheet) → Sensible k → Chip (k .width)
 chipOf k g = record {
   State = State;
   Rest = Registers;
@@ -86,7 +86,7 @@ chipOf k g = record {
 -- ---- a chip to redraw
 
 -- what E3 leaves, by what is awaited: it is spent as that
-module _ (k : Numbers) (g : Sensible k) (s : State) (h : Restartable k s) where
+module _ (k : Sheet) (g : Sensible k) (s : State) (h : Restartable k s) where
   abbrev pub Spent : ℕ → Type 0
   Spent v = (number k s nopCycle ≡ 0) × Ready k (step k s nopCycle)
       × (withRest (rest (s .registers)) (viewOf (step k s nopCycle)) ≡ viewOf s)
@@ -113,7 +113,7 @@ module _ (k : Numbers) (g : Sensible k) (s : State) (h : Restartable k s) where
   spent-by awaited.Contrast e = spent-as (ContrastValue 35) _ (rw e refl) (refl, refl, refl, refl)
   spent-by awaited.Indicator e = spent-as (IndicatorValue 3) _ (rw e refl) (refl, refl, refl, refl)
 
-abbrev pub restartOf : (k : Numbers) (g : Sensible k) → Restart (chipOf k g)
+abbrev pub restartOf : (k : Sheet) (g : Sensible k) → Restart (chipOf k g)
 restartOf k g = record {
   Settings = Registers;
   settings = settings;
@@ -155,10 +155,10 @@ restartOf k g = record {
 -- ---- the KS0713
 
 abbrev pub chip0713 : Chip 132
-chip0713 = chipOf numbers0713 sensible0713
+chip0713 = chipOf sheet0713 sensible0713
 
 abbrev pub restart0713 : Restart chip0713
-restart0713 = restartOf numbers0713 sensible0713
+restart0713 = restartOf sheet0713 sensible0713
 
 -- ---- registers from what a stream moved and what it left
 

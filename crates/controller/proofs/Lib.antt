@@ -4,7 +4,7 @@ pub mod Acting
 pub mod Chips
 pub mod Unique
 pub mod Numbered
-pub mod Sheet
+pub mod Spelled
 pub mod Readers
 pub mod Refusals
 pub mod ShutOuts

@@ -9,9 +9,9 @@ use native.Mathlib.Omega.{arith}
 use lib.ListN.{length}
 use lib.Dec.{eqb}
 use borrow.Author.Tests.{eqb-false}
-use Rattle.instructions.specs.Numbers.{Sensible}
+use Rattle.paper.specs.Sheet.{Sensible}
 use Rattle.instructions.specs.Read.{readOf}
-use Rattle.instructions.specs.declared.numbers.Numbers.{Numbers}
+use Rattle.paper.specs.declared.sheet.Sheet.{Sheet}
 use Rattle.instructions.specs.declared.instruction.Instruction.{Instruction}
 use Rattle.instructions.proofs.Fits.{either, Proper, read-proper}
 use Rattle.registers.specs.Registers.{outside}
@@ -32,11 +32,11 @@ status-so b = record { most = omega arith; some-number = λ e f. absurd (let z :
 read-so : (b : ℕ) (r : Registers) → Numbered (dataRead b r)
 read-so b r = record { most = omega arith; some-number = λ e f. absurd (let z : _≡_ {A = ℕ} 0 1 = cc in omega arith) }
 
-instructed-so : (k : Numbers) (r : Registers) (n : ℕ) (x : Option Instruction) → Proper k n x → Numbered (instructedBy r n x)
+instructed-so : (k : Sheet) (r : Registers) (n : ℕ) (x : Option Instruction) → Proper k n x → Numbered (instructedBy r n x)
 instructed-so k r n (some i) h = done-so _
 instructed-so k r n none h = record { most = omega (arith, h); some-number = λ e f. omega (arith, h) }
 
-carried-so : (k : Numbers) → Sensible k → (r : Registers) (m : List ℕ) (kind value : ℕ) → Numbered (carried k r m kind value)
+carried-so : (k : Sheet) → Sensible k → (r : Registers) (m : List ℕ) (kind value : ℕ) → Numbered (carried k r m kind value)
 unfolding carried
 carried-so k g r m kind value =
     either Numbered (eqb kind 0) (instructed-so k r _ (readOf k (r .awaited) value .value) (read-proper k g (r .awaited) value))
@@ -45,7 +45,7 @@ carried-so k g r m kind value =
     (either Numbered (eqb kind 3) (read-so _ _)
     (either Numbered (eqb kind 4) (done-so _) (done-so _)))))
 
-refusal-most : (k : Numbers) (n : ℕ) (r : Registers) (kind value : ℕ) → refusal k n r kind value ≤ 9
+refusal-most : (k : Sheet) (n : ℕ) (r : Registers) (kind value : ℕ) → refusal k n r kind value ≤ 9
 unfolding refusal
 refusal-most k n r kind value =
     cond-le (not (eqb n (9 * k .width))) 1 _ 9 (omega arith)
@@ -56,7 +56,7 @@ by-refusal : (t : Bool) (n : ℕ) (o : Outcome) → eqb n 0 ≡ t → n ≤ 9 �
 by-refusal true n o e l h = h
 by-refusal false n o e l h = record { most = l; some-number = λ f g. let z = eqb-false n 0 e in omega arith }
 
-pub numbered : (k : Numbers) → Sensible k → (r : Registers) (m : List ℕ) (kind value : ℕ) → Numbered (answer k r m kind value)
+pub numbered : (k : Sheet) → Sensible k → (r : Registers) (m : List ℕ) (kind value : ℕ) → Numbered (answer k r m kind value)
 unfolding answer
 numbered k g r m kind value =
     by-refusal (eqb (refusal k (length m) r kind value) 0) (refusal k (length m) r kind value) (carried k r m kind value) refl

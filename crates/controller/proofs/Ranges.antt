@@ -9,10 +9,10 @@ use native.Mathlib.Omega.{arith}
 use lib.ListN.{length}
 use lib.Dec.{ltb, eqb}
 use borrow.Author.Tests.{ltb-true, eqb-true}
-use Rattle.instructions.specs.Refusal.{wrongSize}
-use Rattle.instructions.specs.Numbers.{Sensible}
+use Rattle.paper.specs.Refusal.{wrongSize}
+use Rattle.paper.specs.Sheet.{Sensible}
 use Rattle.instructions.specs.Read.{readOf}
-use Rattle.instructions.specs.declared.numbers.Numbers.{Numbers}
+use Rattle.paper.specs.declared.sheet.Sheet.{Sheet}
 use Rattle.instructions.specs.declared.instruction.Instruction.{Instruction}
 use Rattle.instructions.specs.declared.instruction.Instruction.the-variants.{ColumnLow, ColumnHigh, Resistor, Power, StartLine, ContrastNext, ContrastValue, Adc, Bias, Entire, Reverse, IndicatorOff, IndicatorOn, IndicatorValue, Display, Page, Shl, ModifyReadOn, ModifyReadOff, Reset, Nop}
 use Rattle.instructions.proofs.Fields.{in-field}
@@ -38,21 +38,21 @@ passed true x e = refl
 passed false x e = absurd (let z : _≡_ {A = ℕ} 1 0 = e in omega arith)
 
 -- where nothing is refused the memory is nine pages long
-pub long : (k : Numbers) (n : ℕ) (r : Registers) (kind value : ℕ) → refusal k n r kind value ≡ 0 → n ≡ 9 * k .width
+pub long : (k : Sheet) (n : ℕ) (r : Registers) (kind value : ℕ) → refusal k n r kind value ≡ 0 → n ≡ 9 * k .width
 unfolding refusal
 long k n r kind value e = eqb-true n (9 * k .width) (passed (eqb n (9 * k .width)) _ e)
 
 -- ---- an instruction inside its fields
 
-saved-ranged : (k : Numbers) (r : Registers) (m : ModifyRead) → Ranged k r → Ranged k (saved r m)
+saved-ranged : (k : Sheet) (r : Registers) (m : ModifyRead) → Ranged k r → Ranged k (saved r m)
 saved-ranged k r Off h = omega arith
 saved-ranged k r (On c) h = h
 
-restored-ranged : (k : Numbers) (r : Registers) (m : ModifyRead) → savedOf m < k .highs * 16 → Ranged k r → Ranged k (restored r m)
+restored-ranged : (k : Sheet) (r : Registers) (m : ModifyRead) → savedOf m < k .highs * 16 → Ranged k r → Ranged k (restored r m)
 restored-ranged k r Off l h = h
 restored-ranged k r (On c) l h = omega arith
 
-pub executed-ranged : (k : Numbers) → Sensible k → (r : Registers) (i : Instruction) → Fits k i → Ranged k r → Ranged k (executed r i)
+pub executed-ranged : (k : Sheet) → Sensible k → (r : Registers) (i : Instruction) → Fits k i → Ranged k r → Ranged k (executed r i)
 executed-ranged k g r (ColumnLow v) f h = omega arith
 executed-ranged k g r (ColumnHigh v) f h = omega (arith, in-field 0x10 (k .highs) v f)
 executed-ranged k g r (Resistor v) f h = omega (arith, in-field 0x20 8 v f)
@@ -109,7 +109,7 @@ executed-pin r Nop = refl
 
 -- ---- a whole cycle
 
-instructed-ranged : (k : Numbers) → Sensible k → (r : Registers) (n : ℕ) (x : Option Instruction) → Proper k n x → Ranged k r
+instructed-ranged : (k : Sheet) → Sensible k → (r : Registers) (n : ℕ) (x : Option Instruction) → Proper k n x → Ranged k r
     → Ranged k (afterBy r (instructedBy r n x .registers))
 instructed-ranged k g r n (some i) f h = executed-ranged k g r i (f .1) h
 instructed-ranged k g r n none f h = h
@@ -123,16 +123,16 @@ pub advanced-in : (w c d : ℕ) → w < d → c < d → advanced w c < d
 unfolding advanced
 advanced-in w c d l h = advanced-by w c d (ltb c w) refl l h
 
-written-ranged : (k : Numbers) → Sensible k → (r : Registers) (b : ℕ) → Ranged k r → Ranged k (written (k .width) r b)
+written-ranged : (k : Sheet) → Sensible k → (r : Registers) (b : ℕ) → Ranged k r → Ranged k (written (k .width) r b)
 unfolding written
 written-ranged k g r b h = omega (arith, advanced-in (k .width) (r .column .0) (k .highs * 16) (g .wide) (h .column))
 
-read-ranged : (k : Numbers) → Sensible k → (r : Registers) (m : ModifyRead) (b : ℕ) → Ranged k r → Ranged k (afterRead (k .width) r m b)
+read-ranged : (k : Sheet) → Sensible k → (r : Registers) (m : ModifyRead) (b : ℕ) → Ranged k r → Ranged k (afterRead (k .width) r m b)
 read-ranged k g r Off b h = written-ranged k g r b h
 read-ranged k g r (On c) b h = omega arith
 
 -- a cycle leaves the registers in range, so that number 2 is never given to a run that starts in range
-pub stays-ranged : (k : Numbers) → Sensible k → (r : Registers) (m : List ℕ) (kind value : ℕ) → Ranged k r
+pub stays-ranged : (k : Sheet) → Sensible k → (r : Registers) (m : List ℕ) (kind value : ℕ) → Ranged k r
     → Ranged k (afterBy r (answer k r m kind value .registers))
 unfolding answer carried
 stays-ranged k g r m kind value h =
@@ -146,7 +146,7 @@ stays-ranged k g r m kind value h =
     h
 
 -- and the memory as long as it was
-pub stays-long : (k : Numbers) (r : Registers) (m : List ℕ) (kind value : ℕ) → length (memoryAfter k r m kind value) ≡ length m
+pub stays-long : (k : Sheet) (r : Registers) (m : List ℕ) (kind value : ℕ) → length (memoryAfter k r m kind value) ≡ length m
 unfolding memoryAfter kept
 stays-long k r m kind value =
     let P : List ℕ → Type 0 = λ l. length l ≡ length m in

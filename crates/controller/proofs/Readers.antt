@@ -12,9 +12,9 @@ use native.Mathlib.Numerals.{add-one}
 use lib.ListN.{length}
 use lib.Dec.{eqb}
 use borrow.Author.Tests.{eqb-true}
-use Rattle.instructions.specs.Numbers.{Sensible}
+use Rattle.paper.specs.Sheet.{Sensible}
 use Rattle.instructions.specs.Read.{readOf}
-use Rattle.instructions.specs.declared.numbers.Numbers.{Numbers}
+use Rattle.paper.specs.declared.sheet.Sheet.{Sheet}
 use Rattle.instructions.specs.declared.instruction.Instruction.{Instruction}
 use Rattle.instructions.specs.declared.instruction.Instruction.the-variants.{ColumnLow, ColumnHigh, Page, ModifyReadOn, ModifyReadOff}
 use Rattle.instructions.proofs.Fields.{field-given}
@@ -36,12 +36,12 @@ use Rattle.controller.proofs.Cells.{past-columns, stored-none, advanced
 use Rattle.controller.proofs.Ranges.{stays-ranged}
 use Rattle.controller.proofs.Acting.{carries, keeps, writes}
 use Rattle.controller.proofs.Chips.{obeys, still, written-ready}
-use Rattle.controller.proofs.Sheet.{pin-low-starts, pin-high-raises}
+use Rattle.controller.proofs.Spelled.{pin-low-starts, pin-high-raises}
 
 -- ---- what changes nothing
 
 -- a status read
-pub status-nothing : (k : Numbers) (s : State) (value : ℕ) → step k s (2, value) ≡ s
+pub status-nothing : (k : Sheet) (s : State) (value : ℕ) → step k s (2, value) ≡ s
 unfolding answer carried memoryAfter kept
 status-nothing k s value =
     let t = eqb (refusal k (length (s .memory)) (s .registers) 2 value) 0 in
@@ -49,7 +49,7 @@ status-nothing k s value =
     ∙ ap (state (s .registers)) (either (λ (m : List ℕ). m ≡ s .memory) t refl refl)
 
 -- a refused cycle, so that an instruction refused leaves the awaited byte too
-module _ (k : Numbers) (r : Registers) (m : List ℕ) (value : ℕ) where
+module _ (k : Sheet) (r : Registers) (m : List ℕ) (value : ℕ) where
   -- an answer is not refused, or gives no registers
   abbrev Silent : Outcome → Type 0
   Silent o = (o .number ≡ 0) ⊎ (o .registers ≡ none)
@@ -82,14 +82,14 @@ refused-by : {A : Type 0} (n : ℕ) → n ≢ 0 → (n ≡ 0) ⊎ A → A
 refused-by n h (inl e) = absurd (h e)
 refused-by n h (inr a) = a
 
-pub refused-nothing : (k : Numbers) (s : State) (x : BusCycle) → number k s x ≢ 0 → step k s x ≡ s
+pub refused-nothing : (k : Sheet) (s : State) (x : BusCycle) → number k s x ≢ 0 → step k s x ≡ s
 refused-nothing k s x h =
     let r = s .registers in
     ap (λ o. state (afterBy r o) (memoryAfter k r (s .memory) (x .0) (x .1))) (refused-by (number k s x) h (silent k r (s .memory) (x .1) (x .0)))
     ∙ ap (state r) (refused-by (number k s x) h (stays-at k r (s .memory) (x .1) (x .0) (eqb (x .0) 1) refl))
 
 -- E0 while on, and EE while off
-module _ (k : Numbers) (g : Sensible k) (s : State) (h : Ready k s) where
+module _ (k : Sheet) (g : Sensible k) (s : State) (h : Ready k s) where
   pub save-on-nothing : (c : Column) → s .registers .«modify_read» ≡ On c → step k s (0, 0xe0) ≡ s
   save-on-nothing c e = obeys k g s h ModifyReadOn 0xe0 refl refl .1 ∙ rw e refl
 
@@ -112,13 +112,13 @@ unfolding written
 read-leaves w r Off b = record { page = refl; modify-read = refl; awaited = refl }
 read-leaves w r (On c) b = record { page = refl; modify-read = refl; awaited = refl }
 
-pub write-leaves : (k : Numbers) (s : State) (value : ℕ) → Left (s .registers) (step k s (1, value) .registers)
+pub write-leaves : (k : Sheet) (s : State) (value : ℕ) → Left (s .registers) (step k s (1, value) .registers)
 unfolding answer carried written
 write-leaves k s value =
     either (λ (o : Outcome). Left (s .registers) (afterBy (s .registers) (o .registers))) (eqb (refusal k (length (s .memory)) (s .registers) 1 value) 0)
     (record { page = refl; modify-read = refl; awaited = refl }) (left-all (s .registers))
 
-pub read-keeps : (k : Numbers) (s : State) (value : ℕ) → Left (s .registers) (step k s (3, value) .registers)
+pub read-keeps : (k : Sheet) (s : State) (value : ℕ) → Left (s .registers) (step k s (3, value) .registers)
 unfolding answer carried
 read-keeps k s value =
     either (λ (o : Outcome). Left (s .registers) (afterBy (s .registers) (o .registers))) (eqb (refusal k (length (s .memory)) (s .registers) 3 value) 0)
@@ -126,7 +126,7 @@ read-keeps k s value =
 
 -- ---- the column never runs on into another page: behind the last column a data write stores nothing, and the column stays where it is
 
-module _ (k : Numbers) (g : Sensible k) (s : State) (h : Restartable k s) where
+module _ (k : Sheet) (g : Sensible k) (s : State) (h : Restartable k s) where
   pub locked-stores-nothing : (b : ℕ) → k .width ≤ s .registers .column .0 → step k s (1, b) .memory ≡ s .memory
   locked-stores-nothing b l =
       ap (λ t. t .memory) (writes k g s b h .1)
@@ -157,7 +157,7 @@ module _ (k : Numbers) (g : Sensible k) (s : State) (h : Restartable k s) where
 
 -- ---- E0, any writes, EE: the column is what it was
 
-module _ (k : Numbers) (g : Sensible k) where
+module _ (k : Sheet) (g : Sensible k) where
   -- while modify-read is on, writes keep the saved column, and EE brings it back
   writes-restore : (bs : List ℕ) (s : State) (c : Column) → Ready k s → s .registers .«modify_read» ≡ On c
       → run k s (map dataCycle bs ++ ((0, 0xee) ∷ [])) .registers .column ≡ c
@@ -175,7 +175,7 @@ module _ (k : Numbers) (g : Sensible k) where
 
 -- ---- reading back: the first read answers the old holder, and n more answer the n cells from the column on
 
-module _ (k : Numbers) (g : Sensible k) where
+module _ (k : Sheet) (g : Sensible k) where
   -- one data read without modify-read
   read-one : (s : State) → Restartable k s → s .registers .«modify_read» ≡ Off
       → (answer k (s .registers) (s .memory) 3 0 .byte ≡ some (s .registers .holder))
@@ -235,7 +235,7 @@ module _ (k : Numbers) (g : Sensible k) where
 
 -- ---- the pin: from any registers in range, low then high leaves power-up's registers but for the holder, and the memory
 
-pub pin-resets : (k : Numbers) → Sensible k → (s : State) → length (s .memory) ≡ 9 * k .width → outside k (s .registers) ≡ false
+pub pin-resets : (k : Sheet) → Sensible k → (s : State) → length (s .memory) ≡ 9 * k .width → outside k (s .registers) ≡ false
     → run k s ((4, 0) ∷ (5, 0) ∷ []) ≡ state (withHolder (withPinLow (start k 0 true) false) (s .registers .holder)) (s .memory)
 pin-resets k g s long e =
     let low = state (start k (s .registers .holder) true) (s .memory) in

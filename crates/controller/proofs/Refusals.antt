@@ -6,8 +6,8 @@ use mathlib.Core.Path.{_≡_, _∙_, ap, sym}
 use mathlib.Core.Logic.{_≢_}
 use mathlib.Core.List.{List}
 use native.Mathlib.Omega.{arith}
-use Rattle.instructions.specs.Numbers.{Sensible}
-use Rattle.instructions.specs.declared.numbers.Numbers.{Numbers}
+use Rattle.paper.specs.Sheet.{Sensible}
+use Rattle.paper.specs.declared.sheet.Sheet.{Sheet}
 use Rattle.registers.specs.declared.Registers.{Registers}
 use Rattle.controller.specs.Cycle.{Cycled}
 use Rattle.controller.specs.State.{state, number}
@@ -16,7 +16,7 @@ use Rattle.controller.proofs.Numbered.{numbered}
 use Rattle.controller.proofs.Readers.{refused-nothing}
 
 -- a refusal alters nothing, and no refusal is 0
-pub cycled-refused-leaves : (k : Numbers) → Sensible k → {r : Registers} {m : List ℕ} {kind value n : ℕ} {left : List ℕ}
+pub cycled-refused-leaves : (k : Sheet) → Sensible k → {r : Registers} {m : List ℕ} {kind value n : ℕ} {left : List ℕ}
     → Cycled k r m kind value (Refused n) left → (n ≢ 0) × (left ≡ m)
 cycled-refused-leaves k g {r} {m} {kind} {value} {n} f =
     let e : n ≡ number k (state r m) (kind, value) = ap (λ o. o .number) (f .tells) in

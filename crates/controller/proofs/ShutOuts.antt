@@ -8,29 +8,29 @@ use mathlib.Core.Option.{Option, some}
 use mathlib.Core.List.{List}
 use native.Mathlib.Omega.{arith}
 use lib.ListN.{length}
-use Rattle.instructions.specs.Numbers.{numbers0713}
+use Rattle.paper.specs.Sheet.{sheet0713}
 use Rattle.registers.specs.Registers.{outside, withAdc, start}
 use Rattle.registers.specs.declared.Registers.{Registers}
 use Rattle.registers.proofs.InRange.{ranged}
 use Rattle.controller.specs.Cycle.{outcome, status, Cycled}
 use Rattle.controller.specs.State.{state, Restartable}
 use Rattle.controller.specs.declared.cycle.Answer.{Answer}
-use Rattle.controller.proofs.Sheet.{status-answered}
+use Rattle.controller.proofs.Spelled.{status-answered}
 
 -- a status read of a usable chip answers the status byte of its registers
-pub status-told : (r : Registers) (m : List ℕ) (a : Answer) (left : List ℕ) → Restartable numbers0713 (state r m) → Cycled numbers0713 r m 2 0 a left
+pub status-told : (r : Registers) (m : List ℕ) (a : Answer) (left : List ℕ) → Restartable sheet0713 (state r m) → Cycled sheet0713 r m 2 0 a left
     → outcome a .byte ≡ some (status r)
-status-told r m a left h f = ap (λ o. o .byte) (f .tells ∙ status-answered numbers0713 (state r m) (h .long) (h .ranged))
+status-told r m a left h f = ap (λ o. o .byte) (f .tells ∙ status-answered sheet0713 (state r m) (h .long) (h .ranged))
 
-usable : (r : Registers) (m : List ℕ) → length m ≡ 1188 → outside numbers0713 r ≡ false → r .«pin_low» ≡ false → Restartable numbers0713 (state r m)
+usable : (r : Registers) (m : List ℕ) → length m ≡ 1188 → outside sheet0713 r ≡ false → r .«pin_low» ≡ false → Restartable sheet0713 (state r m)
 usable r m long e high = record { long = long; ranged = e; high = high }
 
 pub answers-differ : (m : List ℕ) (a b : Answer) (left right : List ℕ) → length m ≡ 1188
-    → Cycled numbers0713 (start numbers0713 0 false) m 2 0 a left → Cycled numbers0713 (withAdc (start numbers0713 0 false) true) m 2 0 b right → a ≢ b
+    → Cycled sheet0713 (start sheet0713 0 false) m 2 0 a left → Cycled sheet0713 (withAdc (start sheet0713 0 false) true) m 2 0 b right → a ≢ b
 unfolding status
 answers-differ m a b left right long f g e =
-    let p = status-told (start numbers0713 0 false) m a left (usable _ m long (ranged numbers0713 (start numbers0713 0 false) (omega arith)) refl) f in
-    let q = status-told (withAdc (start numbers0713 0 false) true) m b right (usable _ m long (ranged numbers0713 (withAdc (start numbers0713 0 false) true) (omega arith)) refl) g in
+    let p = status-told (start sheet0713 0 false) m a left (usable _ m long (ranged sheet0713 (start sheet0713 0 false) (omega arith)) refl) f in
+    let q = status-told (withAdc (start sheet0713 0 false) true) m b right (usable _ m long (ranged sheet0713 (withAdc (start sheet0713 0 false) true) (omega arith)) refl) g in
     let s : _≡_ {A = Option ℕ} (some 96) (some 32) = sym p ∙ ap (λ x. outcome x .byte) e ∙ q in
     let z : _≡_ {A = ℕ} 96 32 = cc in
     omega arith

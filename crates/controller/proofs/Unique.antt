@@ -8,13 +8,13 @@ use mathlib.Core.Option.{Option, none, some}
 use mathlib.Core.List.{List}
 use lib.ListN.{length}
 use lib.Dec.{eqb}
-use Rattle.instructions.specs.Refusal.{wrongSize, outOfRange, pinLow, unassigned, wrongCycle}
+use Rattle.paper.specs.Refusal.{wrongSize, outOfRange, pinLow, unassigned, wrongCycle}
 use Rattle.instructions.specs.Read.{readOf, assigned, nothingAwaited}
-use Rattle.instructions.specs.declared.numbers.Numbers.{Numbers}
+use Rattle.paper.specs.declared.sheet.Sheet.{Sheet}
 use Rattle.instructions.specs.declared.instruction.Awaited.{Awaited}
 use Rattle.instructions.specs.declared.instruction.Awaited.the-variants as awaited
 use Rattle.instructions.specs.declared.instruction.Instruction.{Instruction}
-use Rattle.instructions.proofs.Telling.{apart}
+use Rattle.paper.proofs.Telling.{apart}
 use Rattle.instructions.proofs.Fits.{either}
 use Rattle.instructions.proofs.Unique.{read-none, read-some}
 use Rattle.registers.specs.Registers.{outside}
@@ -42,7 +42,7 @@ back-is (Read r b) = refl
 back-is (Refused n) = refl
 
 -- two answers and two memories that a cycle's promise admits are equal
-pub cycled-one : {k : Numbers} {r : Registers} {m : List ℕ} {kind value : ℕ} {a b : Answer} {left right : List ℕ}
+pub cycled-one : {k : Sheet} {r : Registers} {m : List ℕ} {kind value : ℕ} {a b : Answer} {left right : List ℕ}
     → Cycled k r m kind value a left → Cycled k r m kind value b right → (a ≡ b) × (left ≡ right)
 cycled-one {a = a} {b = b} f g = (apart outcome back back-is a b (f .tells ∙ sym (g .tells)), f .leaves ∙ sym (g .leaves))
 
@@ -59,7 +59,7 @@ in-order false false true d o = refl
 in-order false false false true o = refl
 in-order false false false false o = refl
 
-module _ (k : Numbers) (r : Registers) (value : ℕ) (h : value < 256) where
+module _ (k : Sheet) (r : Registers) (value : ℕ) (h : value < 256) where
   read-number : (x : Option Instruction) → readOf k awaited.Nothing value .value ≡ x
       → instructedBy r (readOf k awaited.Nothing value .number) x .number ≡ cond (not (assigned value)) unassigned 0
   read-number none e = let f = read-none k value h e in f .1 ∙ rw (f .0) refl

@@ -7,10 +7,10 @@ use mathlib.Core.Option.{Option, none, some}
 use mathlib.Core.List.{List}
 use lib.ListN.{length}
 use lib.Dec.{ltb, eqb}
-use Rattle.instructions.specs.Refusal.{wrongSize, outOfRange, pinLow, unassigned, wrongCycle}
-use Rattle.instructions.specs.Told.{Told}
+use Rattle.paper.specs.Refusal.{wrongSize, outOfRange, pinLow, unassigned, wrongCycle}
+use Rattle.paper.specs.Told.{Told}
 use Rattle.instructions.specs.Read.{readOf, assigned, nothingAwaited}
-use Rattle.instructions.specs.declared.numbers.Numbers.{Numbers}
+use Rattle.paper.specs.declared.sheet.Sheet.{Sheet}
 use Rattle.instructions.specs.declared.instruction.Instruction.{Instruction}
 use Rattle.registers.specs.Registers.{column, withColumn, withHolder, withPinLow, start, outside}
 use Rattle.registers.specs.declared.ModifyRead.{ModifyRead}
@@ -71,7 +71,7 @@ abbrev pub instructed : Registers → Told Instruction → Outcome
 instructed r t = instructedBy r (t .number) (t .value)
 
 -- kinds 0 instruction, 1 data write, 2 status read, 3 data read, 4 reset pin low, 5 reset pin high
-unfoldable pub carried : Numbers → Registers → List ℕ → ℕ → ℕ → Outcome
+unfoldable pub carried : Sheet → Registers → List ℕ → ℕ → ℕ → Outcome
 carried k r m kind value =
     cond (eqb kind 0) (instructed r (readOf k (r .awaited) value))
     (cond (eqb kind 1) (done (written (k .width) r value))
@@ -95,7 +95,7 @@ abbrev pub heldLow : Registers → ℕ → Bool
 heldLow r kind = r .«pin_low» && (ltb kind 2 || eqb kind 3)
 
 -- the number that a cycle is refused with before its instruction byte is looked at: 1, 2, 9, 3 in this order, 0 for none
-unfoldable pub refusal : Numbers → ℕ → Registers → ℕ → ℕ → ℕ
+unfoldable pub refusal : Sheet → ℕ → Registers → ℕ → ℕ → ℕ
 refusal k n r kind value =
     cond (not (eqb n (9 * k .width))) wrongSize
     (cond (outside k r) outOfRange
@@ -108,7 +108,7 @@ unfoldable pub unread : Registers → ℕ → ℕ → Bool
 unread r kind value = eqb kind 0 && (nothingAwaited (r .awaited) && not (assigned value))
 
 -- the number that a cycle is refused with, 0 for none: 1, 2, 9, 3, 4 in this order. `proofs/Unique.antt` shows that `answer` has it
-unfoldable pub cycleNumber : Numbers → ℕ → Registers → ℕ → ℕ → ℕ
+unfoldable pub cycleNumber : Sheet → ℕ → Registers → ℕ → ℕ → ℕ
 cycleNumber k n r kind value =
     cond (not (eqb n (9 * k .width))) wrongSize
     (cond (outside k r) outOfRange
@@ -119,14 +119,14 @@ cycleNumber k n r kind value =
 
 -- ---- the whole cycle
 
-unfoldable pub answer : Numbers → Registers → List ℕ → ℕ → ℕ → Outcome
+unfoldable pub answer : Sheet → Registers → List ℕ → ℕ → ℕ → Outcome
 answer k r m kind value =
     cond (eqb (refusal k (length m) r kind value) 0) (carried k r m kind value) (refusedWith (refusal k (length m) r kind value))
 
-unfoldable pub memoryAfter : Numbers → Registers → List ℕ → ℕ → ℕ → List ℕ
+unfoldable pub memoryAfter : Sheet → Registers → List ℕ → ℕ → ℕ → List ℕ
 memoryAfter k r m kind value = cond (eqb (refusal k (length m) r kind value) 0) (kept (k .width) r m kind value) m
 
 -- what a cycle promises: its answer, and the memory that it leaves
-pub record Cycled (k : Numbers) (r : Registers) (before : List ℕ) (kind value : ℕ) (a : Answer) (left : List ℕ) : Type 0 where
+pub record Cycled (k : Sheet) (r : Registers) (before : List ℕ) (kind value : ℕ) (a : Answer) (left : List ℕ) : Type 0 where
   pub tells : outcome a ≡ answer k r before kind value
   pub leaves : left ≡ memoryAfter k r before kind value

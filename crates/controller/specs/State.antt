@@ -6,7 +6,7 @@ use mathlib.Core.Bool.{Bool, true, false}
 use mathlib.Core.Option.{Option, none, some}
 use mathlib.Core.List.{List}
 use lib.ListN.{length}
-use Rattle.instructions.specs.declared.numbers.Numbers.{Numbers}
+use Rattle.paper.specs.declared.sheet.Sheet.{Sheet}
 use Rattle.instructions.specs.declared.instruction.Awaited.{Awaited}
 use Rattle.instructions.specs.declared.instruction.Awaited.the-variants as awaited
 use Rattle.registers.specs.Registers.{column, start, withPage, withColumn, withHolder, withContrast, withIndicator, withIndicatorValue, withAwaited, outside}
@@ -22,7 +22,7 @@ abbrev pub state : Registers → List ℕ → State
 state r m = record { registers = r; memory = m }
 
 -- the chip at power-up, with the memory as lent
-abbrev pub poweredUp : Numbers → List ℕ → State
+abbrev pub poweredUp : Sheet → List ℕ → State
 poweredUp k m = state (start k 0 false) m
 
 -- the registers after an answer: where it gives none they stay
@@ -31,32 +31,32 @@ afterBy r (some n) = n
 afterBy r none = r
 
 -- one cycle: a refused one changes nothing
-abbrev pub step : Numbers → State → BusCycle → State
+abbrev pub step : Sheet → State → BusCycle → State
 step k s x = state
     (afterBy (s .registers) (answer k (s .registers) (s .memory) (x .0) (x .1) .registers))
     (memoryAfter k (s .registers) (s .memory) (x .0) (x .1))
 
 -- the number that a cycle is refused with, 0 for none
-abbrev pub number : Numbers → State → BusCycle → ℕ
+abbrev pub number : Sheet → State → BusCycle → ℕ
 number k s x = answer k (s .registers) (s .memory) (x .0) (x .1) .number
 
 -- a list of cycles, and the number that each of them is refused with
-abbrev pub run : Numbers → State → List BusCycle → State
+abbrev pub run : Sheet → State → List BusCycle → State
 run k s xs = runBy (step k) s xs
 
-abbrev pub numbers : Numbers → State → List BusCycle → List ℕ
+abbrev pub numbers : Sheet → State → List BusCycle → List ℕ
 numbers k s xs = numbersBy (step k) (number k) s xs
 
 -- ---- demand 3's premises
 
 -- the reset pin high and all else unknown: memory of nine pages, registers in range
-pub record Restartable (k : Numbers) (s : State) : Type 0 where
+pub record Restartable (k : Sheet) (s : State) : Type 0 where
   pub long : length (s .memory) ≡ 9 * k .width
   pub ranged : outside k (s .registers) ≡ false
   pub high : s .registers .«pin_low» ≡ false
 
 -- the reset pin high and no second byte awaited
-pub record Ready (k : Numbers) (s : State) : Type 0 where
+pub record Ready (k : Sheet) (s : State) : Type 0 where
   pub restartable : Restartable k s
   pub quiet : s .registers .awaited ≡ awaited.Nothing
 

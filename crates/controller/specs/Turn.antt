@@ -4,7 +4,7 @@ use Prim.Native.Nat.{ℕ}
 use mathlib.Core.Path.{_≡_}
 use mathlib.Core.Option.{Option, none, some}
 use mathlib.Core.List.{List}
-use Rattle.instructions.specs.declared.numbers.Numbers.{Numbers}
+use Rattle.paper.specs.declared.sheet.Sheet.{Sheet}
 use Rattle.registers.specs.declared.Registers.{Registers}
 use Rattle.controller.specs.Cycle.{Outcome, answer, memoryAfter}
 use Rattle.controller.specs.State.{afterBy}
@@ -33,6 +33,6 @@ abbrev pub turnOf : Registers → Outcome → Turn
 turnOf r o = turn (afterBy r (o .registers)) (o .number) (readFlag (o .byte)) (byteRead (o .byte))
 
 -- what take_turn promises: the cycle's answer, taken apart, and the memory that it leaves
-pub record IsTurn (k : Numbers) (r : Registers) (before : List ℕ) (kind value : ℕ) (t : Turn) (left : List ℕ) : Type 0 where
+pub record IsTurn (k : Sheet) (r : Registers) (before : List ℕ) (kind value : ℕ) (t : Turn) (left : List ℕ) : Type 0 where
   pub tells : t ≡ turnOf r (answer k r before kind value)
   pub leaves : left ≡ memoryAfter k r before kind value

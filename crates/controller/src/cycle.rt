@@ -3,21 +3,21 @@ ghost use mathlib.Core.Path.{_≡_};
 ghost use mathlib.Core.Bool.{cond};
 ghost use Prim.Native.Nat.{_+_, _*_, _≤_};
 ghost use lib.ListN.{length};
-ghost use Rattle.instructions.specs.Numbers.{Sensible, numbers0713};
+ghost use Rattle.paper.specs.Sheet.{Sensible, sheet0713};
 ghost use Rattle.instructions.specs.Read.{readOf};
 ghost use Rattle.controller.specs.Cycle.{status, malformed, refusal, written, afterRead, instructed, carried, kept, outcome, Cycled};
 use crate::execute::execute;
 use crate::memory::advance;
 use crate::memory::load;
 use crate::memory::store;
-use instructions::numbers::Numbers;
-use instructions::numbers::ks0713;
 use instructions::read::Reading;
 use instructions::read::read_for;
-use instructions::refusal::OUT_OF_RANGE;
-use instructions::refusal::PIN_LOW;
-use instructions::refusal::WRONG_CYCLE;
-use instructions::refusal::WRONG_SIZE;
+use paper::refusal::OUT_OF_RANGE;
+use paper::refusal::PIN_LOW;
+use paper::refusal::WRONG_CYCLE;
+use paper::refusal::WRONG_SIZE;
+use paper::sheet::Sheet;
+use paper::sheet::ks0713;
 use registers::ModifyRead;
 use registers::Registers;
 use registers::outside_range;
@@ -69,7 +69,7 @@ fn after_read(width: usize, registers: Registers, mode: ModifyRead, byte: u8) ->
     }
 }
 
-fn instruct(chip: Numbers, registers: Registers, byte: u8) -> Answer
+fn instruct(chip: Sheet, registers: Registers, byte: u8) -> Answer
     ensures { λ a. ⌜ outcome a ≡ instructed registers (readOf chip (registers .awaited) byte) ⌝ }
 {
     let awaited = registers.awaited;
@@ -87,7 +87,7 @@ pub fn not_a_cycle(kind: u8, value: u8) -> bool
 }
 
 // The number that a cycle is refused with before its instruction is looked at, 0 for none.
-fn refusal_of(chip: Numbers, len: usize, registers: Registers, kind: u8, value: u8) -> u8
+fn refusal_of(chip: Sheet, len: usize, registers: Registers, kind: u8, value: u8) -> u8
     requires { ⌜ Sensible chip ⌝ }
     ensures { λ n. ⌜ n ≡ refusal chip len registers kind value ⌝ }
 {
@@ -110,7 +110,7 @@ fn refusal_of(chip: Numbers, len: usize, registers: Registers, kind: u8, value: 
 }
 
 // A cycle that is not refused so.
-fn carry_out(chip: Numbers, registers: Registers, memory: &mut [u8], kind: u8, value: u8) -> Answer
+fn carry_out(chip: Sheet, registers: Registers, memory: &mut [u8], kind: u8, value: u8) -> Answer
     requires { ⌜ Sensible chip × (length (now memory) ≡ 9 * chip .width) ⌝ }
     ensures { λ a. ⌜ (outcome a ≡ carried chip registers (now (memory .entry)) kind value) × (now (memory .exit) ≡ kept (chip .width) registers (now (memory .entry)) kind value) ⌝ }
 {
@@ -137,7 +137,7 @@ fn carry_out(chip: Numbers, registers: Registers, memory: &mut [u8], kind: u8, v
 }
 
 // One cycle of any chip.
-fn cycle_for(chip: Numbers, registers: Registers, memory: &mut [u8], kind: u8, value: u8) -> Answer
+fn cycle_for(chip: Sheet, registers: Registers, memory: &mut [u8], kind: u8, value: u8) -> Answer
     requires { ⌜ Sensible chip ⌝ }
     ensures { λ a. ⌜ Cycled chip registers (now (memory .entry)) kind value a (now (memory .exit)) ⌝ }
 {
@@ -151,7 +151,7 @@ fn cycle_for(chip: Numbers, registers: Registers, memory: &mut [u8], kind: u8, v
 // Plays one bus cycle on the KS0713. Answers the registers after it, and for a read the byte; refuses with 1, 2, 9, 3 or 4,
 // tested in this order. A refusal leaves the memory as it was.
 pub fn cycle(registers: Registers, memory: &mut [u8], kind: u8, value: u8) -> Answer
-    ensures { λ a. ⌜ Cycled numbers0713 registers (now (memory .entry)) kind value a (now (memory .exit)) ⌝ }
+    ensures { λ a. ⌜ Cycled sheet0713 registers (now (memory .entry)) kind value a (now (memory .exit)) ⌝ }
 {
     cycle_for(ks0713(), registers, memory, kind, value)
 }

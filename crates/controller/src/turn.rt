@@ -1,6 +1,6 @@
 // One cycle for who plays many: its answer taken apart, with the registers after it whatever was answered.
 ghost use mathlib.Core.Path.{_≡_};
-ghost use Rattle.instructions.specs.Numbers.{numbers0713};
+ghost use Rattle.paper.specs.Sheet.{sheet0713};
 ghost use Rattle.controller.specs.Cycle.{outcome};
 ghost use Rattle.controller.specs.State.{afterBy};
 ghost use Rattle.controller.specs.Turn.{turn, readFlag, byteRead, IsTurn};
@@ -54,7 +54,7 @@ pub fn take_turn(
     read: &mut u8,
     byte: &mut u8,
 ) -> Registers
-    ensures { λ r. ⌜ IsTurn numbers0713 registers (now (memory .entry)) kind value (turn r (now (number .exit)) (now (read .exit)) (now (byte .exit))) (now (memory .exit)) ⌝ }
+    ensures { λ r. ⌜ IsTurn sheet0713 registers (now (memory .entry)) kind value (turn r (now (number .exit)) (now (read .exit)) (now (byte .exit))) (now (memory .exit)) ⌝ }
 {
     let answer = cycle(registers, memory, kind, value);
     tell(answer, number, read, byte);

@@ -6,7 +6,7 @@ use mathlib.Core.Bool.{true, false}
 use mathlib.Core.Option.{Option, some}
 use mathlib.Core.List.{List, [], _∷_, _++_}
 use lib.ListN.{set, replicate}
-use Rattle.instructions.specs.Numbers.{numbers0713}
+use Rattle.paper.specs.Sheet.{sheet0713}
 use Rattle.registers.specs.Registers.{start}
 use Rattle.controller.specs.Cycle.{answer}
 use Rattle.controller.specs.Run.{BusCycle}
@@ -22,10 +22,10 @@ zeros = replicate 1188 0
 
 -- after power-up, and then after some cycles
 abbrev pub up : State
-up = state (start numbers0713 0 false) zeros
+up = state (start sheet0713 0 false) zeros
 
 abbrev pub after : List BusCycle → State
-after cycles = run numbers0713 up cycles
+after cycles = run sheet0713 up cycles
 
 abbrev pub instruction : ℕ → BusCycle
 instruction b = (0, b)
@@ -35,7 +35,7 @@ byte b = (1, b)
 
 -- what a status read answers
 abbrev pub statusOf : State → Option ℕ
-statusOf s = answer numbers0713 (s .registers) (s .memory) 2 0 .byte
+statusOf s = answer sheet0713 (s .registers) (s .memory) 2 0 .byte
 
 -- zeros but for one byte at page p, column c
 abbrev pub spot : ℕ → ℕ → ℕ → List ℕ → List ℕ
@@ -57,8 +57,8 @@ pub record Figures : Type 0 where
   -- 81 then FF: contrast 63
   pub contrast : after (instruction 0x81 ∷ instruction 0xff ∷ []) .registers .contrast ≡ 63
   -- start 60, SHL 0, row 5: line 1. SHL 1, row 0: line 59
-  pub row-5 : lineOf (numbers0713 .rows) 60 false 5 ≡ 1
-  pub row-0 : lineOf (numbers0713 .rows) 60 true 0 ≡ 59
+  pub row-5 : lineOf (sheet0713 .rows) 60 false 5 ≡ 1
+  pub row-0 : lineOf (sheet0713 .rows) 60 true 0 ≡ 59
   -- pictures equal: 0 bytes
   pub equal : updateStream 132 zeros zeros ≡ []
   pub equal-length : updateLength 132 zeros zeros ≡ 0

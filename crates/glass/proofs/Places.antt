@@ -7,12 +7,12 @@ use native.Mathlib.Omega.{arith}
 use native.Mathlib.Nat.{div-lt-iff-lt-mul, mod-lt}
 use lib.Dec.{eqb}
 use borrow.Author.Tests.{eqb-true, not-false}
-use Rattle.instructions.specs.Refusal.{wrongSize}
-use Rattle.instructions.specs.declared.numbers.Numbers.{Numbers}
+use Rattle.paper.specs.Refusal.{wrongSize}
+use Rattle.paper.specs.declared.sheet.Sheet.{Sheet}
 use Rattle.registers.specs.declared.Registers.{Registers}
 use Rattle.controller.proofs.Cells.{place}
 use Rattle.glass.specs.Frame.{refusal}
-use Rattle.instructions.proofs.Either.{neither}
+use Rattle.paper.proofs.Either.{neither}
 
 -- a line is on one of 9 pages
 pub line-place : (w line c : ℕ) → line ≤ 64 → c < w → w * (line / 8) + c < 9 * w
@@ -36,6 +36,6 @@ passed true x e = absurd (let z : _≡_ {A = ℕ} 1 0 = e in omega arith)
 passed false x e = refl
 
 -- where nothing is refused the memory and the frame are 9 strips long
-pub long : (c : Numbers) (r : Registers) (m n : ℕ) → refusal c r m n ≡ 0 → (m ≡ 9 * c .width) × (n ≡ 9 * c .width)
+pub long : (c : Sheet) (r : Registers) (m n : ℕ) → refusal c r m n ≡ 0 → (m ≡ 9 * c .width) × (n ≡ 9 * c .width)
 unfolding refusal
 long c r m n e = right-sizes (9 * c .width) m n (passed (not (eqb m (9 * c .width)) || not (eqb n (9 * c .width))) _ e)

@@ -11,10 +11,10 @@ use native.Mathlib.Omega.{arith}
 use lib.ListN.{length}
 use lib.Dec.{ltb, eqb}
 use borrow.Author.Tests.{ltb-true, lt-ltb, eqb-false, eq-eqb, ne-eqb, not-true}
-use Rattle.instructions.specs.Refusal.{wrongSize, outOfRange}
-use Rattle.instructions.specs.Told.{Told, given, refused}
-use Rattle.instructions.specs.declared.numbers.Numbers.{Numbers}
-use Rattle.instructions.proofs.Telling.{apart, answerOf, not-given}
+use Rattle.paper.specs.Refusal.{wrongSize, outOfRange}
+use Rattle.paper.specs.Told.{Told, given, refused}
+use Rattle.paper.specs.declared.sheet.Sheet.{Sheet}
+use Rattle.paper.proofs.Telling.{apart, answerOf, not-given}
 use Rattle.registers.specs.Registers.{outside}
 use Rattle.registers.specs.declared.Registers.{Registers}
 use Rattle.glass.specs.Frame.{frameOf, refusal, toldShown, IsShown}
@@ -26,9 +26,9 @@ use Rattle.glass.specs.declared.power.Powered.{Powered}
 use Rattle.glass.specs.declared.power.Powered.the-variants as powered
 use Rattle.glass.specs.declared.voltage.Voltage.{Voltage}
 use Rattle.glass.specs.declared.voltage.Voltage.the-variants as voltage
-use Rattle.instructions.proofs.Answering.{refused-number}
-use Rattle.instructions.proofs.Either.{either, or-true}
-use Rattle.instructions.proofs.Exactly.{Exactly}
+use Rattle.paper.proofs.Answering.{refused-number}
+use Rattle.paper.proofs.Either.{either, or-true}
+use Rattle.paper.proofs.Exactly.{Exactly}
 use Rattle.glass.proofs.Places.{right-sizes}
 
 -- ---- an answer that is refused with one number where a test holds, and else given
@@ -52,7 +52,7 @@ powered-back (powered.Refused n) = refl
 power-told : (a b : Powered) → toldPower a ≡ toldPower b → a ≡ b
 power-told = apart toldPower (answerOf powered.State powered.Refused) powered-back
 
-module _ {c : Numbers} {r : Registers} where
+module _ {c : Sheet} {r : Registers} where
   -- two answers that the promise admits are equal
   pub power-one : {a b : Powered} → IsPower c r a → IsPower c r b → a ≡ b
   power-one {a} {b} f g = power-told a b (f .tells ∙ sym (g .tells))
@@ -160,7 +160,7 @@ module _ (size m n : ℕ) where
   right-is : Sized size m n → wrong size m n ≡ false
   right-is h = rw (eq-eqb m size (h .0), eq-eqb n size (h .1))
 
-module _ {c : Numbers} {r : Registers} {m frame : List ℕ} where
+module _ {c : Sheet} {r : Registers} {m frame : List ℕ} where
   -- two answers that the promise admits are equal, and so are the frames that they leave
   pub shown-one : {a b : Shown} {k l : List ℕ} → IsShown c r m frame a k → IsShown c r m frame b l → (a ≡ b) × (k ≡ l)
   shown-one {a} {b} f g = (shown-told a b (f .tells ∙ sym (g .tells)), f .leaves ∙ sym (g .leaves))

@@ -8,9 +8,9 @@ use native.Mathlib.Omega.{arith}
 use lib.ListN.{getD}
 use lib.Dec.{ltb, leb, leb→le}
 use borrow.Author.Tests.{ltb-false}
-use Rattle.instructions.proofs.Every.{at}
+use Rattle.paper.proofs.Every.{at}
 use Rattle.glass.specs.Voltage.{ratios}
-use Rattle.instructions.proofs.Either.{neither}
+use Rattle.paper.proofs.Either.{neither}
 
 few : ℕ → Bool
 few k = leb (getD ratios k 0) 648

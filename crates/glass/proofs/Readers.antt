@@ -1,4 +1,4 @@
--- What the lit frame says of its dots, so that a reader opens no definition: over any chip's numbers, where only sense is asked of them.
+-- What the lit frame says of its dots, so that a reader opens no definition: over any chip's sheet, of which only sense is asked.
 -- Assumes nothing.
 use Prim.Native.Nat.{ℕ, _+_, _-_, _*_, _/_, _%_, _≤_, _<_}
 use mathlib.Core.Path.{_≡_, _∙_, refl, ap}
@@ -11,15 +11,15 @@ use native.Mathlib.Omega.{arith}
 use lib.ListN.{length, getD, replicate}
 use lib.Dec.{ltb, eqb}
 use borrow.Author.Tests.{lt-ltb, le-ltb, ne-eqb}
-use Rattle.instructions.specs.Numbers.{Sensible, numbers0713}
-use Rattle.instructions.specs.declared.numbers.Numbers.{Numbers}
+use Rattle.paper.specs.Sheet.{Sensible, sheet0713}
+use Rattle.paper.specs.declared.sheet.Sheet.{Sheet}
 use Rattle.registers.specs.Registers.{withStartLine, withAdc, withShl, withReverse}
 use Rattle.registers.specs.declared.Registers.{Registers}
 use Rattle.controller.proofs.Cells.{place}
 use Rattle.glass.specs.Bit.{bitOf, sumOf}
 use Rattle.glass.specs.Dot.{lineOf, columnOf, dotOf, dotAt, litOf}
 use Rattle.glass.specs.Frame.{stripByte, frameOf}
-use Rattle.instructions.proofs.Listed.{at, length-listed, listed-same}
+use Rattle.paper.proofs.Listed.{at, length-listed, listed-same}
 use Rattle.glass.proofs.Bits.{bit-is, sum-same}
 
 -- a value that both arms have
@@ -27,7 +27,7 @@ same : {A : Type 0} (b : Bool) {x y z : A} → x ≡ z → y ≡ z → cond b x 
 same true p q = p
 same false p q = q
 
-module _ (c : Numbers) (r : Registers) (m : List ℕ) where
+module _ (c : Sheet) (r : Registers) (m : List ℕ) where
   -- ---- the bytes of the frame
 
   pub frame-length : length (frameOf c r m) ≡ 9 * c .width
@@ -121,9 +121,9 @@ module _ (c : Numbers) (r : Registers) (m : List ℕ) where
 -- ---- the KS0713
 
 -- entire display lights all 65 rows
-pub entire-65 : (r : Registers) (m : List ℕ) → r .on ≡ true → r .entire ≡ true → (k s : ℕ) → k ≤ 64 → litOf numbers0713 r m k s ≡ true
+pub entire-65 : (r : Registers) (m : List ℕ) → r .on ≡ true → r .entire ≡ true → (k s : ℕ) → k ≤ 64 → litOf sheet0713 r m k s ≡ true
 entire-65 r m h e k s le = row (decLt k 64)
   where
-    row : Dec (k < 64) → litOf numbers0713 r m k s ≡ true
-    row (yes lt) = entire-lit numbers0713 r m h e k s lt
-    row (no ge) = let q : k ≡ 64 = omega arith in rw q (entire-icon numbers0713 r m h e s)
+    row : Dec (k < 64) → litOf sheet0713 r m k s ≡ true
+    row (yes lt) = entire-lit sheet0713 r m h e k s lt
+    row (no ge) = let q : k ≡ 64 = omega arith in rw q (entire-icon sheet0713 r m h e s)

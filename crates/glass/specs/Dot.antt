@@ -5,7 +5,7 @@ use mathlib.Core.Bool.{Bool, true, false, cond, not}
 use mathlib.Core.List.{List}
 use lib.ListN.{getD}
 use lib.Dec.{ltb, eqb}
-use Rattle.instructions.specs.declared.numbers.Numbers.{Numbers}
+use Rattle.paper.specs.declared.sheet.Sheet.{Sheet}
 use Rattle.registers.specs.declared.Registers.{Registers}
 use Rattle.glass.specs.Bit.{bitOf}
 
@@ -30,7 +30,7 @@ unfoldable pub dotAt : ℕ → Registers → List ℕ → ℕ → ℕ → Bool
 dotAt w r m line s = dotOf (r .on) (r .entire) (r .reverse) (cellBit w m line (columnOf w (r .adc) s))
 
 -- the dot of row k under segment s: the commons scroll, the icon row, row 64, shows line 64 always, and there are no other rows
-unfoldable pub litOf : Numbers → Registers → List ℕ → ℕ → ℕ → Bool
+unfoldable pub litOf : Sheet → Registers → List ℕ → ℕ → ℕ → Bool
 litOf c r m k s =
     cond (ltb k (c .rows)) (dotAt (c .width) r m (lineOf (c .rows) (r .«start_line») (r .shl) k) s)
     (cond (eqb k 64) (dotAt (c .width) r m 64 s) false)

@@ -2,9 +2,9 @@
 -- Assumes nothing.
 use mathlib.Core.Path.{_≡_}
 use mathlib.Core.Bool.{cond, not, _&&_}
-use Rattle.instructions.specs.Refusal.{outOfRange}
-use Rattle.instructions.specs.Told.{Told, given, refused}
-use Rattle.instructions.specs.declared.numbers.Numbers.{Numbers}
+use Rattle.paper.specs.Refusal.{outOfRange}
+use Rattle.paper.specs.Told.{Told, given, refused}
+use Rattle.paper.specs.declared.sheet.Sheet.{Sheet}
 use Rattle.registers.specs.Registers.{outside}
 use Rattle.registers.specs.declared.Registers.{Registers}
 use Rattle.glass.specs.declared.power.PowerState.{PowerState}
@@ -22,5 +22,5 @@ toldPower (State p) = given p
 toldPower (Refused n) = refused n
 
 -- what power_state promises: the state, or 2
-pub record IsPower (c : Numbers) (r : Registers) (a : Powered) : Type 0 where
+pub record IsPower (c : Sheet) (r : Registers) (a : Powered) : Type 0 where
   pub tells : toldPower a ≡ cond (outside c r) (refused outOfRange) (given (powerOf r))

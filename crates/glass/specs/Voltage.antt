@@ -6,8 +6,8 @@ use mathlib.Core.Bool.{cond, _||_}
 use mathlib.Core.List.{List, [], _∷_}
 use lib.ListN.{getD}
 use lib.Dec.{ltb}
-use Rattle.instructions.specs.Refusal.{outOfRange}
-use Rattle.instructions.specs.Told.{Told, given, refused}
+use Rattle.paper.specs.Refusal.{outOfRange}
+use Rattle.paper.specs.Told.{Told, given, refused}
 use Rattle.glass.specs.declared.voltage.Voltage.{Voltage}
 use Rattle.glass.specs.declared.voltage.Voltage.the-variants.{Fifteenths, Refused}
 

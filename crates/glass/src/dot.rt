@@ -2,11 +2,11 @@
 ghost use mathlib.Core.Path.{_≡_};
 ghost use Prim.Native.Nat.{_*_, _≤_, _<_};
 ghost use lib.ListN.{length};
-ghost use Rattle.instructions.specs.Numbers.{Sensible};
+ghost use Rattle.paper.specs.Sheet.{Sensible};
 ghost use Rattle.glass.specs.Dot.{lineOf, columnOf, cellBit, dotOf, dotAt, litOf};
 use crate::bit::bit_of;
 use crate::frame::Segment;
-use instructions::numbers::Numbers;
+use paper::sheet::Sheet;
 use registers::Column;
 use registers::Registers;
 
@@ -71,7 +71,7 @@ fn dot_at(width: usize, registers: Registers, memory: &[u8], line: usize, segmen
 
 // The dot of a row under a segment: the commons scroll, the icon row, row 64, shows line 64 always, and there are no other rows.
 pub(crate) fn lit(
-    chip: Numbers,
+    chip: Sheet,
     registers: Registers,
     memory: &[u8],
     row: usize,

@@ -2,14 +2,14 @@
 ghost use mathlib.Core.Path.{_≡_};
 ghost use Prim.Native.Nat.{_*_, _<_, _≤_};
 ghost use lib.ListN.{length};
-ghost use Rattle.instructions.specs.Numbers.{Sensible, numbers0713};
+ghost use Rattle.paper.specs.Sheet.{Sensible, sheet0713};
 ghost use Rattle.glass.specs.Frame.{stripByte, frameOf, refusal, IsShown};
 use crate::bit::weight;
 use crate::dot::lit;
-use instructions::numbers::Numbers;
-use instructions::numbers::ks0713;
-use instructions::refusal::OUT_OF_RANGE;
-use instructions::refusal::WRONG_SIZE;
+use paper::refusal::OUT_OF_RANGE;
+use paper::refusal::WRONG_SIZE;
+use paper::sheet::Sheet;
+use paper::sheet::ks0713;
 use registers::Registers;
 use registers::outside_range;
 
@@ -24,7 +24,7 @@ pub enum Shown {
 
 // A strip under a segment: bit b is row 8 * strip + b.
 fn strip_byte(
-    chip: Numbers,
+    chip: Sheet,
     registers: Registers,
     memory: &[u8],
     strip: usize,
@@ -44,7 +44,7 @@ fn strip_byte(
 }
 
 // The whole frame: byte width * strip + segment is that strip under that segment.
-fn fill(chip: Numbers, registers: Registers, memory: &[u8], out: &mut [u8])
+fn fill(chip: Sheet, registers: Registers, memory: &[u8], out: &mut [u8])
     requires { ⌜ Sensible chip × (1 ≤ chip .width) × (length (now memory) ≡ 9 * chip .width) × (length (now out) ≡ 9 * chip .width) ⌝ }
     ensures { λ _. ⌜ now (out .exit) ≡ frameOf chip registers (now (memory .entry)) ⌝ }
 {
@@ -58,7 +58,7 @@ fn fill(chip: Numbers, registers: Registers, memory: &[u8], out: &mut [u8])
 }
 
 // The number that a frame call is refused with, 0 for none.
-fn refusal_of(chip: Numbers, registers: Registers, memory: usize, frame: usize) -> u8
+fn refusal_of(chip: Sheet, registers: Registers, memory: usize, frame: usize) -> u8
     requires { ⌜ Sensible chip ⌝ }
     ensures { λ n. ⌜ n ≡ refusal chip registers memory frame ⌝ }
 {
@@ -75,7 +75,7 @@ fn refusal_of(chip: Numbers, registers: Registers, memory: usize, frame: usize) 
 }
 
 // The lit frame of any chip.
-fn frame_for(chip: Numbers, registers: Registers, memory: &[u8], out: &mut [u8]) -> Shown
+fn frame_for(chip: Sheet, registers: Registers, memory: &[u8], out: &mut [u8]) -> Shown
     requires { ⌜ Sensible chip × (1 ≤ chip .width) ⌝ }
     ensures { λ a. ⌜ IsShown chip registers (now (memory .entry)) (now (out .entry)) a (now (out .exit)) ⌝ }
 {
@@ -89,7 +89,7 @@ fn frame_for(chip: Numbers, registers: Registers, memory: &[u8], out: &mut [u8])
 
 // Draws the lit frame of the KS0713 into `out`. Refuses with 1, 2, tested in this order; a refusal leaves `out` as it was.
 pub fn frame(registers: Registers, memory: &[u8], out: &mut [u8]) -> Shown
-    ensures { λ a. ⌜ IsShown numbers0713 registers (now (memory .entry)) (now (out .entry)) a (now (out .exit)) ⌝ }
+    ensures { λ a. ⌜ IsShown sheet0713 registers (now (memory .entry)) (now (out .entry)) a (now (out .exit)) ⌝ }
 {
     frame_for(ks0713(), registers, memory, out)
 }

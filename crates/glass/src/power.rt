@@ -1,10 +1,10 @@
 // The power state.
 ghost use mathlib.Core.Path.{_≡_};
-ghost use Rattle.instructions.specs.Numbers.{numbers0713};
+ghost use Rattle.paper.specs.Sheet.{sheet0713};
 ghost use Rattle.glass.specs.Power.{powerOf, IsPower};
-use instructions::numbers::Numbers;
-use instructions::numbers::ks0713;
-use instructions::refusal::OUT_OF_RANGE;
+use paper::refusal::OUT_OF_RANGE;
+use paper::sheet::Sheet;
+use paper::sheet::ks0713;
 use registers::Registers;
 use registers::outside_range;
 
@@ -34,7 +34,7 @@ fn state_of(registers: Registers) -> PowerState
 }
 
 // The power state of any chip.
-fn power_for(chip: Numbers, registers: Registers) -> Powered
+fn power_for(chip: Sheet, registers: Registers) -> Powered
     ensures { λ a. ⌜ IsPower chip registers a ⌝ }
 {
     if outside_range(chip, registers) {
@@ -45,7 +45,7 @@ fn power_for(chip: Numbers, registers: Registers) -> Powered
 
 // The power state of the KS0713. Refuses with 2.
 pub fn power_state(registers: Registers) -> Powered
-    ensures { λ a. ⌜ IsPower numbers0713 registers a ⌝ }
+    ensures { λ a. ⌜ IsPower sheet0713 registers a ⌝ }
 {
     power_for(ks0713(), registers)
 }

@@ -3,7 +3,7 @@ ghost use mathlib.Core.Path.{_≡_};
 ghost use Prim.Native.Nat.{_≤_};
 ghost use lib.ListN.{getD};
 ghost use Rattle.glass.specs.Voltage.{ratios, IsVoltage};
-use instructions::refusal::OUT_OF_RANGE;
+use paper::refusal::OUT_OF_RANGE;
 
 // 1 + Rb/Ra in hundredths by resistor, from 002.
 const RATIOS: [u32; 8] = [190, 219, 255, 302, 361, 435, 529, 648];

@@ -6,7 +6,7 @@ use mathlib.Core.Bool.{Bool, true, false, _||_}
 use native.Mathlib.Omega.{arith}
 use lib.Dec.{T, eqb, eqb→eq}
 use Rattle.instructions.specs.Read.{classOf}
-use Rattle.instructions.proofs.Every.{every, at}
+use Rattle.paper.proofs.Every.{every, at}
 
 -- each of the `count` bytes from `first` on is of the class, `but` aside
 abbrev pub alike : ℕ → ℕ → ℕ → (ℕ → Bool) → Bool

@@ -6,10 +6,10 @@ use mathlib.Core.Bool.{Bool, true, false, cond}
 use native.Mathlib.Omega.{arith}
 use lib.Dec.{ltb}
 use borrow.Author.Tests.{lt-ltb, le-ltb, ltb-true}
-use Rattle.instructions.specs.Refusal.{outsideField}
-use Rattle.instructions.specs.Told.{given, refused}
+use Rattle.paper.specs.Refusal.{outsideField}
+use Rattle.paper.specs.Told.{given, refused}
 use Rattle.instructions.specs.Write.{fieldOf}
-use Rattle.instructions.proofs.Telling.{given-one}
+use Rattle.paper.proofs.Telling.{given-one}
 
 -- a value inside its field is written as the base and the value
 pub field-given : (base count v : ℕ) → v < count → fieldOf base count v ≡ given (base + v)

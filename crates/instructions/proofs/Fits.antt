@@ -7,12 +7,12 @@ use mathlib.Core.Option.{Option, none, some}
 use native.Mathlib.Omega.{arith}
 use lib.Dec.{eqb, ltb, leb}
 use borrow.Author.Tests.{ltb-true, ltb-false}
-use Rattle.instructions.specs.Refusal.{unassigned}
-use Rattle.instructions.specs.Told.{Told, given}
-use Rattle.instructions.specs.Numbers.{Sensible}
+use Rattle.paper.specs.Refusal.{unassigned}
+use Rattle.paper.specs.Told.{Told, given}
+use Rattle.paper.specs.Sheet.{Sensible}
 use Rattle.instructions.specs.Write.{fieldOf, flagOf, writeOf}
 use Rattle.instructions.specs.Read.{classOf, roomIn, readBy, readFirst, readOf}
-use Rattle.instructions.specs.declared.numbers.Numbers.{Numbers}
+use Rattle.paper.specs.declared.sheet.Sheet.{Sheet}
 use Rattle.instructions.specs.declared.instruction.Awaited.{Awaited}
 use Rattle.instructions.specs.declared.instruction.Awaited.the-variants as awaited
 use Rattle.instructions.specs.declared.instruction.Instruction.{Instruction}
@@ -24,11 +24,11 @@ either P true p q = p
 either P false p q = q
 
 -- an instruction is inside its fields: its byte is not refused
-abbrev pub Fits : Numbers → Instruction → Type 0
+abbrev pub Fits : Sheet → Instruction → Type 0
 Fits k i = writeOf k i .number ≡ 0
 
 -- what is read is inside its fields, and nothing else is refused but with 4
-abbrev pub Proper : Numbers → ℕ → Option Instruction → Type 0
+abbrev pub Proper : Sheet → ℕ → Option Instruction → Type 0
 Proper k n (some i) = (n ≡ 0) × Fits k i
 Proper k n none = n ≡ unassigned
 
@@ -45,11 +45,11 @@ room-by highs h true e l m = ltb-true h highs e
 room-by highs h false e l m = omega (arith, ltb-false h highs e)
 
 -- the counter has room for what is left of a high part
-room-in : (k : Numbers) → Sensible k → (h : ℕ) → h < 16 → roomIn (k .highs) h < k .highs
+room-in : (k : Sheet) → Sensible k → (h : ℕ) → h < 16 → roomIn (k .highs) h < k .highs
 unfolding roomIn
 room-in k g h l = room-by (k .highs) h (ltb h (k .highs)) refl l (g .high)
 
-by-proper : (k : Numbers) → Sensible k → (c b : ℕ) → Proper k (readBy k c b .number) (readBy k c b .value)
+by-proper : (k : Sheet) → Sensible k → (c b : ℕ) → Proper k (readBy k c b .number) (readBy k c b .value)
 unfolding readBy
 by-proper k g c b =
     let P : Told Instruction → Type 0 = λ t. Proper k (t .number) (t .value) in
@@ -74,12 +74,12 @@ by-proper k g c b =
     (either P (eqb c 19) (refl, refl)
     refl))))))))))))))))))
 
-pub read-proper : (k : Numbers) → Sensible k → (a : Awaited) (b : ℕ) → Proper k (readOf k a b .number) (readOf k a b .value)
+pub read-proper : (k : Sheet) → Sensible k → (a : Awaited) (b : ℕ) → Proper k (readOf k a b .number) (readOf k a b .value)
 unfolding readFirst
 read-proper k g awaited.Nothing b = by-proper k g (classOf b) b
 read-proper k g awaited.Contrast b = (refl, field-fits 0x00 64 (b % 64) (omega arith))
 read-proper k g awaited.Indicator b = (refl, field-fits 0x00 4 (b % 4) (omega arith))
 
 -- what is read as i fits
-pub read-fits : (k : Numbers) → Sensible k → (a : Awaited) (b : ℕ) (i : Instruction) → readOf k a b ≡ given i → Fits k i
+pub read-fits : (k : Sheet) → Sensible k → (a : Awaited) (b : ℕ) (i : Instruction) → readOf k a b ≡ given i → Fits k i
 read-fits k g a b i e = subst (λ t. Proper k (t .number) (t .value)) e (read-proper k g a b) .1

@@ -1,12 +1,3 @@
-pub mod Cases
-pub mod Either
-pub mod Exactly
-pub mod Listed
-pub mod Answering
-pub mod Tests
-pub mod Sensible
-pub mod Every
-pub mod Telling
 pub mod Classes
 pub mod Fields
 pub mod ReadBack

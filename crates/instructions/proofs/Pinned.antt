@@ -7,18 +7,18 @@ use mathlib.Core.Bool.{Bool, true, false, cond, _&&_}
 use mathlib.Core.Option.{Option, none, some}
 use native.Mathlib.Omega.{arith}
 use lib.Dec.{T, eqb, eqb→eq}
-use Rattle.instructions.specs.Refusal.{unassigned}
-use Rattle.instructions.specs.Told.{Told, given, refused}
-use Rattle.instructions.specs.Numbers.{Sensible, numbers0713}
+use Rattle.paper.specs.Refusal.{unassigned}
+use Rattle.paper.specs.Told.{Told, given, refused}
+use Rattle.paper.specs.Sheet.{Sensible, sheet0713}
 use Rattle.instructions.specs.Write.{fieldOf, flagOf, writeOf}
 use Rattle.instructions.specs.Read.{classOf, roomIn, readBy, readFirst, readOf, assigned, plain, again, nothingAwaited, awaitedFor}
-use Rattle.instructions.specs.declared.numbers.Numbers.{Numbers}
+use Rattle.paper.specs.declared.sheet.Sheet.{Sheet}
 use Rattle.instructions.specs.declared.instruction.Awaited.{Awaited}
 use Rattle.instructions.specs.declared.instruction.Awaited.the-variants as awaited
 use Rattle.instructions.specs.declared.instruction.Instruction.{Instruction}
-use Rattle.instructions.proofs.Every.{every, at, left, right}
-use Rattle.instructions.proofs.Sensible.{sensible0713}
-use Rattle.instructions.proofs.Telling.{told-is}
+use Rattle.paper.proofs.Every.{every, at, left, right}
+use Rattle.paper.proofs.Sensible.{sensible0713}
+use Rattle.paper.proofs.Telling.{told-is}
 use Rattle.instructions.proofs.Fields.{field-given}
 use Rattle.instructions.proofs.ReadBack.{read-back}
 
@@ -48,18 +48,18 @@ is-same s t h =
 
 -- ---- each assigned byte, read and written again, is itself with its free bits zero; any other is refused with 4
 
-first : Numbers → ℕ → Bool
+first : Sheet → ℕ → Bool
 first k b = same (again k (readFirst k b)) (cond (assigned b) (given (plain k b)) (refused unassigned))
 
-pub first-again : (b : ℕ) → b < 256 → again numbers0713 (readOf numbers0713 awaited.Nothing b) ≡ cond (assigned b) (given (plain numbers0713 b)) (refused unassigned)
+pub first-again : (b : ℕ) → b < 256 → again sheet0713 (readOf sheet0713 awaited.Nothing b) ≡ cond (assigned b) (given (plain sheet0713 b)) (refused unassigned)
 unfolding first same sameByte readFirst readBy classOf roomIn fieldOf flagOf assigned plain
-first-again b h = is-same _ _ (at (first numbers0713) 256 tt b h)
+first-again b h = is-same _ _ (at (first sheet0713) 256 tt b h)
 
 -- an awaited second byte, whatever its value: its free bits are those above its field
-pub contrast-again : (k : Numbers) (b : ℕ) → again k (readOf k awaited.Contrast b) ≡ given (b % 64)
+pub contrast-again : (k : Sheet) (b : ℕ) → again k (readOf k awaited.Contrast b) ≡ given (b % 64)
 contrast-again k b = field-given 0x00 64 (b % 64) (omega arith) ∙ ap given (omega arith)
 
-pub indicator-again : (k : Numbers) (b : ℕ) → again k (readOf k awaited.Indicator b) ≡ given (b % 4)
+pub indicator-again : (k : Sheet) (b : ℕ) → again k (readOf k awaited.Indicator b) ≡ given (b % 4)
 indicator-again k b = field-given 0x00 4 (b % 4) (omega arith) ∙ ap given (omega arith)
 
 -- ---- these are 161 bytes
@@ -84,11 +84,11 @@ whole (some i) = true
 whole none = false
 
 -- what is read of byte b is written as b with its free bits 0, is no second byte, and is not refused
-abbrev pub agreesBy : Numbers → ℕ → ℕ → Option Instruction → Bool
+abbrev pub agreesBy : Sheet → ℕ → ℕ → Option Instruction → Bool
 agreesBy k b n (some i) = same (writeOf k i) (given (plain k b)) && (nothingAwaited (awaitedFor i) && eqb n 0)
 agreesBy k b n none = true
 
-abbrev pub agrees : Numbers → ℕ → Told Instruction → Bool
+abbrev pub agrees : Sheet → ℕ → Told Instruction → Bool
 agrees k b t = agreesBy k b (t .number) (t .value)
 
 unfoldable pub bothOrNone : Bool → Bool → Bool
@@ -103,10 +103,10 @@ is-both true false t = absurd t
 is-both false true t = absurd t
 is-both false false t = refl
 
-abbrev pub agree : Numbers → ℕ → Bool
+abbrev pub agree : Sheet → ℕ → Bool
 agree k b = agrees k b (readFirst k b) && bothOrNone (whole (readFirst k b .value)) (whole (readFirst k (plain k b) .value))
 
-module _ (k : Numbers) (g : Sensible k) (all : T (every (agree k) 0 256)) (b : ℕ) (h : b < 256) where
+module _ (k : Sheet) (g : Sensible k) (all : T (every (agree k) 0 256)) (b : ℕ) (h : b < 256) where
   pub read-is : (i : Instruction) → readOf k awaited.Nothing b ≡ given i → (awaitedFor i ≡ awaited.Nothing) × (writeOf k i ≡ given (plain k b))
   read-is i e =
       let w = same (writeOf k i) (given (plain k b)) in
@@ -136,7 +136,7 @@ module _ (k : Numbers) (g : Sensible k) (all : T (every (agree k) 0 256)) (b : �
   is-read i p = read-there (readFirst k b .value) refl i (there i (p .0) (p .1))
 
 pub pinned : (b : ℕ) → b < 256 → (i : Instruction)
-    → (readOf numbers0713 awaited.Nothing b ≡ given i → (awaitedFor i ≡ awaited.Nothing) × (writeOf numbers0713 i ≡ given (plain numbers0713 b)))
-    × ((awaitedFor i ≡ awaited.Nothing) × (writeOf numbers0713 i ≡ given (plain numbers0713 b)) → readOf numbers0713 awaited.Nothing b ≡ given i)
+    → (readOf sheet0713 awaited.Nothing b ≡ given i → (awaitedFor i ≡ awaited.Nothing) × (writeOf sheet0713 i ≡ given (plain sheet0713 b)))
+    × ((awaitedFor i ≡ awaited.Nothing) × (writeOf sheet0713 i ≡ given (plain sheet0713 b)) → readOf sheet0713 awaited.Nothing b ≡ given i)
 unfolding whole bothOrNone same sameByte readFirst readBy classOf roomIn fieldOf flagOf plain
-pinned b h i = (read-is numbers0713 sensible0713 tt b h i, is-read numbers0713 sensible0713 tt b h i)
+pinned b h i = (read-is sheet0713 sensible0713 tt b h i, is-read sheet0713 sensible0713 tt b h i)

@@ -6,16 +6,16 @@ use mathlib.Core.Bool.{true, false}
 use native.Mathlib.Omega.{arith}
 use lib.Dec.{T}
 use borrow.Author.Tests.{lt-ltb}
-use Rattle.instructions.specs.Told.{given}
-use Rattle.instructions.specs.Numbers.{Sensible}
+use Rattle.paper.specs.Told.{given}
+use Rattle.paper.specs.Sheet.{Sensible}
 use Rattle.instructions.specs.Write.{flagOf, writeOf}
 use Rattle.instructions.specs.Read.{classOf, roomIn, readBy, readFirst, readOf, awaitedFor}
-use Rattle.instructions.specs.declared.numbers.Numbers.{Numbers}
+use Rattle.paper.specs.declared.sheet.Sheet.{Sheet}
 use Rattle.instructions.specs.declared.instruction.Instruction.{Instruction}
 use Rattle.instructions.specs.declared.instruction.Instruction.the-variants.{ColumnLow, ColumnHigh, Resistor, Power, StartLine, ContrastNext, ContrastValue, Adc, Bias, Entire, Reverse, IndicatorOff, IndicatorOn, IndicatorValue, Display, Page, Shl, ModifyReadOn, ModifyReadOff, Reset, Nop}
 use Rattle.instructions.proofs.Classes.{alike, of-class}
 use Rattle.instructions.proofs.Fields.{field-is}
-use Rattle.instructions.proofs.Telling.{given-one}
+use Rattle.paper.proofs.Telling.{given-one}
 
 -- the counter has room for a high part inside its field
 pub room-kept : (highs h : ℕ) → h < highs → roomIn highs h ≡ h
@@ -23,15 +23,15 @@ unfolding roomIn
 room-kept highs h l = simp (lt-ltb h highs l)
 
 -- a value's byte is read by the class of its field
-by-field : (k : Numbers) (class base count v b : ℕ) → T (alike class base count (λ x. false)) → v < count → base + v ≡ b → readFirst k b ≡ readBy k class b
+by-field : (k : Sheet) (class base count v b : ℕ) → T (alike class base count (λ x. false)) → v < count → base + v ≡ b → readFirst k b ≡ readBy k class b
 unfolding readFirst
 by-field k class base count v b t h e = ap (λ (c : ℕ). readBy k c b) (sym (of-class class base count (λ x. false) b t (omega arith) (omega arith) refl))
 
 -- an instruction of one byte only
-by-byte : (k : Numbers) (i : Instruction) (x b : ℕ) → given x ≡ given b → readFirst k x ≡ given i → readFirst k b ≡ given i
+by-byte : (k : Sheet) (i : Instruction) (x b : ℕ) → given x ≡ given b → readFirst k x ≡ given i → readFirst k b ≡ given i
 by-byte k i x b e h = subst (λ (y : ℕ). readFirst k y ≡ given i) (given-one e) h
 
-pub read-back : (k : Numbers) → Sensible k → (i : Instruction) (b : ℕ) → writeOf k i ≡ given b → readOf k (awaitedFor i) b ≡ given i
+pub read-back : (k : Sheet) → Sensible k → (i : Instruction) (b : ℕ) → writeOf k i ≡ given b → readOf k (awaitedFor i) b ≡ given i
 unfolding readFirst readBy classOf flagOf
 read-back k g (ColumnLow v) b e =
     let f = field-is 0x00 16 v b e in

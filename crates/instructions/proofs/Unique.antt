@@ -8,11 +8,11 @@ use mathlib.Core.Bool.{Bool, true, false, cond, not, _&&_}
 use mathlib.Core.Option.{Option, none, some}
 use native.Mathlib.Omega.{arith}
 use lib.Dec.{T, eqb, eqb→eq}
-use Rattle.instructions.specs.Refusal.{unassigned, outsideField}
-use Rattle.instructions.specs.Told.{Told, given, refused}
+use Rattle.paper.specs.Refusal.{unassigned, outsideField}
+use Rattle.paper.specs.Told.{Told, given, refused}
 use Rattle.instructions.specs.Write.{fieldOf, flagOf, writeOf, OutsideField, toldWriting, IsWritten}
 use Rattle.instructions.specs.Read.{classOf, readBy, readFirst, readOf, toldReading, assigned, IsRead}
-use Rattle.instructions.specs.declared.numbers.Numbers.{Numbers}
+use Rattle.paper.specs.declared.sheet.Sheet.{Sheet}
 use Rattle.instructions.specs.declared.instruction.Awaited.{Awaited}
 use Rattle.instructions.specs.declared.instruction.Awaited.the-variants as awaited
 use Rattle.instructions.specs.declared.instruction.Instruction.{Instruction}
@@ -21,12 +21,12 @@ use Rattle.instructions.specs.declared.read.Reading.{Reading}
 use Rattle.instructions.specs.declared.read.Reading.the-variants.{ReadAs, Unread}
 use Rattle.instructions.specs.declared.write.Writing.{Writing}
 use Rattle.instructions.specs.declared.write.Writing.the-variants.{WrittenAs, Unwritten}
-use Rattle.instructions.proofs.Cases.{less}
-use Rattle.instructions.proofs.Exactly.{Exactly, then}
+use Rattle.paper.proofs.Cases.{less}
+use Rattle.paper.proofs.Exactly.{Exactly, then}
 use Rattle.instructions.proofs.Fields.{field-given, field-refused}
-use Rattle.instructions.proofs.Every.{at, left, right}
+use Rattle.paper.proofs.Every.{at, left, right}
 use Rattle.instructions.proofs.Pinned.{whole}
-use Rattle.instructions.proofs.Telling.{apart, answerOf, refused-one, not-given, told-is}
+use Rattle.paper.proofs.Telling.{apart, answerOf, refused-one, not-given, told-is}
 
 -- ---- the reader
 
@@ -35,7 +35,7 @@ reading-back (ReadAs i) = refl
 reading-back (Unread n) = refl
 
 -- two readings that the promise admits are equal
-pub read-one : {k : Numbers} {a : Awaited} {b : ℕ} {r s : Reading} → IsRead k a b r → IsRead k a b s → r ≡ s
+pub read-one : {k : Sheet} {a : Awaited} {b : ℕ} {r s : Reading} → IsRead k a b r → IsRead k a b s → r ≡ s
 read-one {r = r} {s = s} f g = apart toldReading (answerOf ReadAs Unread) reading-back r s (f .tells ∙ sym (g .tells))
 
 -- ---- the writer
@@ -49,15 +49,15 @@ written-told : (w v : Writing) → toldWriting w ≡ toldWriting v → w ≡ v
 written-told = apart toldWriting (answerOf WrittenAs Unwritten) writing-back
 
 -- two writings that the promise admits are equal
-pub written-one : {k : Numbers} {i : Instruction} {w v : Writing} → IsWritten k i w → IsWritten k i v → w ≡ v
+pub written-one : {k : Sheet} {i : Instruction} {w v : Writing} → IsWritten k i w → IsWritten k i v → w ≡ v
 written-one {w = w} {v = v} f g = written-told w v (f .tells ∙ sym (g .tells))
 
 -- ---- number 4: an instruction byte unassigned and nothing awaited, and only then
 
-unfoldable pub refusedSo : Numbers → ℕ → Bool
+unfoldable pub refusedSo : Sheet → ℕ → Bool
 refusedSo k b = cond (whole (readFirst k b .value)) (assigned b) (not (assigned b) && eqb (readFirst k b .number) unassigned)
 
-refused-so : (k : Numbers) (b : ℕ) → b < 256 → T (refusedSo k b)
+refused-so : (k : Sheet) (b : ℕ) → b < 256 → T (refusedSo k b)
 unfolding refusedSo whole readFirst readBy classOf assigned
 refused-so k b h = at (refusedSo k) 256 tt b h
 
@@ -69,7 +69,7 @@ is-false : (b : Bool) → T (not b) → b ≡ false
 is-false true t = absurd t
 is-false false t = refl
 
-module _ (k : Numbers) (b : ℕ) (h : b < 256) where
+module _ (k : Sheet) (b : ℕ) (h : b < 256) where
   -- nothing awaited: a byte that is not read is unassigned, and refused with 4
   pub read-none : readOf k awaited.Nothing b .value ≡ none → (assigned b ≡ false) × (readOf k awaited.Nothing b .number ≡ unassigned)
   unfolding refusedSo whole
@@ -126,7 +126,7 @@ flag-so off on true = byte-so on
 flag-so off on false = byte-so off
 
 -- the table, row by row
-written-so : (k : Numbers) (i : Instruction) → Six (OutsideField k i) (writeOf k i)
+written-so : (k : Sheet) (i : Instruction) → Six (OutsideField k i) (writeOf k i)
 written-so k (ColumnLow v) = field-so 0x00 16 v
 written-so k (ColumnHigh v) = field-so 0x10 (k .highs) v
 written-so k (Resistor v) = field-so 0x20 8 v
@@ -163,7 +163,7 @@ module _ {Outside : Type 0} {t : Told ℕ} where
   only-6 (inl p) e = refused-one (e ∙ p .0)
   only-6 (inr g) e = absurd (not-given (e ∙ g .is))
 
-module _ (k : Numbers) (i : Instruction) where
+module _ (k : Sheet) (i : Instruction) where
   -- the number that is told is 6 exactly if the value is outside its field
   pub number-written-6 : Exactly (writeOf k i .number ≡ outsideField) (OutsideField k i)
   number-written-6 = number-6 (written-so k i)

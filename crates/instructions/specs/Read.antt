@@ -5,10 +5,10 @@ use mathlib.Core.Path.{_≡_}
 use mathlib.Core.Bool.{Bool, true, false, cond, not, _&&_}
 use mathlib.Core.Option.{Option, none, some}
 use lib.Dec.{ltb, leb, eqb}
-use Rattle.instructions.specs.Refusal.{unassigned}
-use Rattle.instructions.specs.Told.{Told, given, refused}
+use Rattle.paper.specs.Refusal.{unassigned}
+use Rattle.paper.specs.Told.{Told, given, refused}
 use Rattle.instructions.specs.Write.{writeOf}
-use Rattle.instructions.specs.declared.numbers.Numbers.{Numbers}
+use Rattle.paper.specs.declared.sheet.Sheet.{Sheet}
 use Rattle.instructions.specs.declared.instruction.Awaited.{Awaited}
 use Rattle.instructions.specs.declared.instruction.Awaited.the-variants as awaited
 use Rattle.instructions.specs.declared.instruction.Instruction.{Instruction}
@@ -49,7 +49,7 @@ unfoldable pub roomIn : ℕ → ℕ → ℕ
 roomIn highs h = cond (ltb h highs) h (h - highs)
 
 -- what a byte of a class is read as
-unfoldable pub readBy : Numbers → ℕ → ℕ → Told Instruction
+unfoldable pub readBy : Sheet → ℕ → ℕ → Told Instruction
 readBy k c b =
     cond (eqb c 1) (given (ColumnLow (b % 16)))
     (cond (eqb c 2) (given (ColumnHigh (roomIn (k .highs) (b % 16))))
@@ -73,11 +73,11 @@ readBy k c b =
     (refused unassigned)))))))))))))))))))
 
 -- a byte where nothing is awaited
-unfoldable pub readFirst : Numbers → ℕ → Told Instruction
+unfoldable pub readFirst : Sheet → ℕ → Told Instruction
 readFirst k b = readBy k (classOf b) b
 
 -- a byte where this is awaited: a second byte is taken whatever its value
-abbrev pub readOf : Numbers → Awaited → ℕ → Told Instruction
+abbrev pub readOf : Sheet → Awaited → ℕ → Told Instruction
 readOf k awaited.Nothing b = readFirst k b
 readOf k awaited.Contrast b = given (ContrastValue (b % 64))
 readOf k awaited.Indicator b = given (IndicatorValue (b % 4))
@@ -87,7 +87,7 @@ unfoldable pub assigned : ℕ → Bool
 assigned b = not (eqb (classOf b) 0)
 
 -- an assigned byte with its free bits 0: bits 0 to 2 of C0-CF, and of 10-1F the bit that the counter has no room for
-unfoldable pub plain : Numbers → ℕ → ℕ
+unfoldable pub plain : Sheet → ℕ → ℕ
 plain k b = cond (within 0xc0 0xcf b) (b - b % 8) (cond (within 0x10 0x1f b) (0x10 + roomIn (k .highs) (b % 16)) b)
 
 -- no second byte is awaited
@@ -97,11 +97,11 @@ nothingAwaited awaited.Contrast = false
 nothingAwaited awaited.Indicator = false
 
 -- what was read, written again; a refusal stays
-abbrev pub writtenAgain : Numbers → Option Instruction → ℕ → Told ℕ
+abbrev pub writtenAgain : Sheet → Option Instruction → ℕ → Told ℕ
 writtenAgain k (some i) n = writeOf k i
 writtenAgain k none n = refused n
 
-abbrev pub again : Numbers → Told Instruction → Told ℕ
+abbrev pub again : Sheet → Told Instruction → Told ℕ
 again k t = writtenAgain k (t .value) (t .number)
 
 -- what is awaited where an instruction's byte is read as it: each second byte is read as one when it is awaited
@@ -134,5 +134,5 @@ toldReading (ReadAs i) = given i
 toldReading (Unread n) = refused n
 
 -- what the reader promises
-pub record IsRead (k : Numbers) (a : Awaited) (b : ℕ) (r : Reading) : Type 0 where
+pub record IsRead (k : Sheet) (a : Awaited) (b : ℕ) (r : Reading) : Type 0 where
   pub tells : toldReading r ≡ readOf k a b

@@ -4,9 +4,9 @@ use Prim.Native.Nat.{ℕ, _+_, _≤_}
 use mathlib.Core.Path.{_≡_}
 use mathlib.Core.Bool.{Bool, cond}
 use lib.Dec.{ltb}
-use Rattle.instructions.specs.Refusal.{outsideField}
-use Rattle.instructions.specs.Told.{Told, given, refused}
-use Rattle.instructions.specs.declared.numbers.Numbers.{Numbers}
+use Rattle.paper.specs.Refusal.{outsideField}
+use Rattle.paper.specs.Told.{Told, given, refused}
+use Rattle.paper.specs.declared.sheet.Sheet.{Sheet}
 use Rattle.instructions.specs.declared.instruction.Instruction.{Instruction}
 use Rattle.instructions.specs.declared.instruction.Instruction.the-variants.{ColumnLow, ColumnHigh, Resistor, Power, StartLine, ContrastNext, ContrastValue, Adc, Bias, Entire, Reverse, IndicatorOff, IndicatorOn, IndicatorValue, Display, Page, Shl, ModifyReadOn, ModifyReadOff, Reset, Nop}
 use Rattle.instructions.specs.declared.write.Writing.{Writing}
@@ -21,7 +21,7 @@ unfoldable pub flagOf : ℕ → ℕ → Bool → Told ℕ
 flagOf off on f = cond f (given on) (given off)
 
 -- the table: free bits are 0, and each second byte is an instruction of its own
-abbrev pub writeOf : Numbers → Instruction → Told ℕ
+abbrev pub writeOf : Sheet → Instruction → Told ℕ
 writeOf k (ColumnLow v) = fieldOf 0x00 16 v
 writeOf k (ColumnHigh v) = fieldOf 0x10 (k .highs) v
 writeOf k (Resistor v) = fieldOf 0x20 8 v
@@ -46,7 +46,7 @@ writeOf k Nop = given 0xe3
 
 -- a value to write is outside its field, row by row, by how many values the field has: for the high four bits of column as many as
 -- the counter has room for. A flag and an instruction without a value never are
-abbrev pub OutsideField : Numbers → Instruction → Type 0
+abbrev pub OutsideField : Sheet → Instruction → Type 0
 OutsideField k (ColumnLow v) = 16 ≤ v
 OutsideField k (ColumnHigh v) = k .highs ≤ v
 OutsideField k (Resistor v) = 8 ≤ v
@@ -75,5 +75,5 @@ toldWriting (WrittenAs b) = given b
 toldWriting (Unwritten n) = refused n
 
 -- what the writer promises
-pub record IsWritten (k : Numbers) (i : Instruction) (a : Writing) : Type 0 where
+pub record IsWritten (k : Sheet) (i : Instruction) (a : Writing) : Type 0 where
   pub tells : toldWriting a ≡ writeOf k i

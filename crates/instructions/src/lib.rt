@@ -1,6 +1,4 @@
-// The instruction bytes: what a byte is read as, what an instruction is written as, and the numbers that a refusal carries.
+// The instruction bytes: what a byte is read as, and what an instruction is written as.
 pub mod instruction;
-pub mod numbers;
 pub mod read;
-pub mod refusal;
 pub mod write;

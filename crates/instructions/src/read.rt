@@ -1,12 +1,12 @@
 // The reader: one byte, with what is awaited.
 ghost use mathlib.Core.Path.{_≡_};
-ghost use Rattle.instructions.specs.Numbers.{numbers0713};
+ghost use Rattle.paper.specs.Sheet.{sheet0713};
 ghost use Rattle.instructions.specs.Read.{classOf, roomIn, readBy, toldReading, IsRead};
 use crate::instruction::Awaited;
 use crate::instruction::Instruction;
-use crate::numbers::Numbers;
-use crate::numbers::ks0713;
-use crate::refusal::UNASSIGNED;
+use paper::refusal::UNASSIGNED;
+use paper::sheet::Sheet;
+use paper::sheet::ks0713;
 
 // What a byte is read as, or the number of the refusal.
 pub enum Reading {
@@ -50,7 +50,7 @@ fn room_in(highs: u8, high: u8) -> u8
 }
 
 // What a byte of a class is read as.
-fn read_by(chip: Numbers, class: u8, byte: u8) -> Reading
+fn read_by(chip: Sheet, class: u8, byte: u8) -> Reading
     ensures { λ r. ⌜ toldReading r ≡ readBy chip class byte ⌝ }
 {
     match class {
@@ -77,8 +77,8 @@ fn read_by(chip: Numbers, class: u8, byte: u8) -> Reading
     }
 }
 
-// Reads one byte, for any chip's numbers. A second byte is taken whatever its value.
-pub fn read_for(chip: Numbers, awaited: Awaited, byte: u8) -> Reading
+// Reads one byte, for any chip's sheet. A second byte is taken whatever its value.
+pub fn read_for(chip: Sheet, awaited: Awaited, byte: u8) -> Reading
     ensures { λ r. ⌜ IsRead chip awaited byte r ⌝ }
 {
     match awaited {
@@ -93,7 +93,7 @@ pub fn read_for(chip: Numbers, awaited: Awaited, byte: u8) -> Reading
 
 // Reads one byte of the KS0713, with what is awaited. Refuses with 4.
 pub fn read_instruction(awaited: Awaited, byte: u8) -> Reading
-    ensures { λ r. ⌜ IsRead numbers0713 awaited byte r ⌝ }
+    ensures { λ r. ⌜ IsRead sheet0713 awaited byte r ⌝ }
 {
     read_for(ks0713(), awaited, byte)
 }

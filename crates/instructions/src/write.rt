@@ -1,12 +1,12 @@
 // The writer: one instruction, as one byte with its free bits 0.
 ghost use mathlib.Core.Path.{_≡_};
 ghost use Prim.Native.Nat.{_+_, _≤_};
-ghost use Rattle.instructions.specs.Numbers.{numbers0713, Sensible};
+ghost use Rattle.paper.specs.Sheet.{sheet0713, Sensible};
 ghost use Rattle.instructions.specs.Write.{fieldOf, flagOf, toldWriting, IsWritten};
 use crate::instruction::Instruction;
-use crate::numbers::Numbers;
-use crate::numbers::ks0713;
-use crate::refusal::OUTSIDE_FIELD;
+use paper::refusal::OUTSIDE_FIELD;
+use paper::sheet::Sheet;
+use paper::sheet::ks0713;
 
 // What an instruction is written as, or the number of the refusal.
 pub enum Writing {
@@ -35,7 +35,7 @@ fn flag(off: u8, on: u8, value: bool) -> Writing
     Writing::WrittenAs(off)
 }
 
-fn write_for(chip: Numbers, instruction: Instruction) -> Writing
+fn write_for(chip: Sheet, instruction: Instruction) -> Writing
     requires { ⌜ Sensible chip ⌝ }
     ensures { λ r. ⌜ IsWritten chip instruction r ⌝ }
 {
@@ -66,7 +66,7 @@ fn write_for(chip: Numbers, instruction: Instruction) -> Writing
 
 // Writes one instruction of the KS0713 as a byte with its free bits 0. Refuses with 6.
 pub fn write_instruction(instruction: Instruction) -> Writing
-    ensures { λ r. ⌜ IsWritten numbers0713 instruction r ⌝ }
+    ensures { λ r. ⌜ IsWritten sheet0713 instruction r ⌝ }
 {
     write_for(ks0713(), instruction)
 }

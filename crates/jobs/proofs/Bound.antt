@@ -10,17 +10,17 @@ use native.Mathlib.Omega.{arith}
 use borrow.Author.Tests.{ltb-false}
 use lib.Dec.{ltb, eqb}
 use lib.ListN.{length, length-append}
-use Rattle.instructions.specs.Numbers.{numbers0713}
-use Rattle.instructions.proofs.Sensible.{sensible0713}
+use Rattle.paper.specs.Sheet.{sheet0713}
+use Rattle.paper.proofs.Sensible.{sensible0713}
 use Rattle.registers.specs.declared.Registers.{Registers}
 use Rattle.controller.specs.Cycle.{Outcome}
 use Rattle.controller.specs.State.{State, step}
-use Rattle.instructions.proofs.Cases.{split}
+use Rattle.paper.proofs.Cases.{split}
 use Rattle.streams.specs.Length.{updateLength}
 use Rattle.jobs.specs.Header.{wordAt, cycleAt, picture2}
 use Rattle.jobs.specs.Text.{hex, decimalUpTo, decimal, field, flag, modifyFlag, readLine, refusalLine, badLine, endLine, updateLine}
 use Rattle.jobs.specs.Play.{byteLine, lineOf, answerAt, ending, textFrom, powerUp, textBy, textOf, longest}
-use Rattle.jobs.specs.Output.{flagFields}
+use Rattle.jobs.specs.Output.{flagFields, endingMost}
 use Rattle.jobs.specs.declared.header.Job.{Job}
 use Rattle.controller.proofs.Numbered.{Numbered, numbered}
 use Rattle.jobs.proofs.Scan.{Way, short, sizes, cycle, good, way, jobOf, sizes-right}
@@ -110,7 +110,7 @@ if-most : (b : Bool) (t : List ℕ) (n : ℕ) → length t ≤ n → length (con
 if-most true t n h = omega arith
 if-most false t n h = h
 
-pub ending-most : (file : List ℕ) (j : Job) (s : State) → length (ending file j s) ≤ 242
+pub ending-most : (file : List ℕ) (j : Job) (s : State) → length (ending file j s) ≤ endingMost
 unfolding ending
 ending-most file j s =
     let u = updateLine (updateLength 132 (s .memory) (picture2 file (j .cycles))) in
@@ -118,16 +118,16 @@ ending-most file j s =
 
 -- ---- the whole text
 
-pub text-most : (file : List ℕ) (j : Job) (s : State) (i n : ℕ) → i + n ≤ 100000 → length (textFrom file j s i n) ≤ 13 * n + 242
+pub text-most : (file : List ℕ) (j : Job) (s : State) (i n : ℕ) → i + n ≤ 100000 → length (textFrom file j s i n) ≤ 13 * n + endingMost
 unfolding textFrom
 text-most file j s i zero h = ending-most file j s
 text-most file j s i (suc n) h =
     let o = answerAt file i s in
-    let s′ = step numbers0713 s (cycleAt file i) in
+    let s′ = step sheet0713 s (cycleAt file i) in
     omega (
       arith,
       length-append (lineOf i o) (textFrom file j s′ (suc i) n),
-      line-most i (omega arith) o (numbered numbers0713 sensible0713 (s .registers) (s .memory) (cycleAt file i .0) (cycleAt file i .1)),
+      line-most i (omega arith) o (numbered sheet0713 sensible0713 (s .registers) (s .memory) (cycleAt file i .0) (cycleAt file i .1)),
       text-most file j s′ (suc i) n (omega arith),
     )
 

@@ -7,9 +7,9 @@ use mathlib.Core.List.{List}
 use native.Mathlib.Omega.{arith}
 use lib.ListN.{length, take}
 use lib.Seq.{take-all, length-take-le}
-use Rattle.instructions.specs.Refusal.{wrongHeader}
-use Rattle.instructions.specs.Told.{refused}
-use Rattle.instructions.proofs.Cases.{less}
+use Rattle.paper.specs.Refusal.{wrongHeader}
+use Rattle.paper.specs.Told.{refused}
+use Rattle.paper.proofs.Cases.{less}
 use Rattle.jobs.specs.Header.{headerOf}
 use Rattle.jobs.specs.Play.{textBy, textOf}
 use Rattle.jobs.proofs.Scan.{Way, short, sizes, cycle, good, way, sizes-right}

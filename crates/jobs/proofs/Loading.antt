@@ -9,7 +9,7 @@ use borrow.Author.Tests.{lt-ltb, le-ltb, ltb-false}
 use lib.Dec.{ltb}
 use lib.ListN.{length, take, drop, getD, set, replicate, length-append, length-replicate, length-drop, drop-of-length-le}
 use lib.Seq.{take-suc, take-suc-set, take-all, take-at, getD-take, length-take-le}
-use Rattle.instructions.proofs.Cases.{split, less}
+use Rattle.paper.proofs.Cases.{split, less}
 use Rattle.jobs.specs.Memory.{startMemory, filledUp}
 use Rattle.jobs.specs.Output.{Holds}
 use Rattle.jobs.specs.declared.header.Job.{Job}

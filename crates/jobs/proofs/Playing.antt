@@ -10,9 +10,9 @@ use native.Mathlib.Omega.{arith}
 use lib.ListN.{length, take, drop, length-append, length-drop}
 use lib.Seq.{sets, sets-eq, length-take-le}
 use borrow.Author.Tests.{lt-ltb, le-ltb}
-use Rattle.instructions.specs.Refusal.{shortOutput}
-use Rattle.instructions.specs.Told.{given}
-use Rattle.instructions.specs.Numbers.{numbers0713}
+use Rattle.paper.specs.Refusal.{shortOutput}
+use Rattle.paper.specs.Told.{given}
+use Rattle.paper.specs.Sheet.{sheet0713}
 use Rattle.registers.specs.declared.Registers.{Registers}
 use Rattle.controller.specs.State.{State, state, poweredUp, step}
 use Rattle.controller.specs.Turn.{Turn, readFlag, byteRead, IsTurn}
@@ -26,7 +26,7 @@ use Rattle.jobs.specs.Header.{cycleAt, picture2, IsHeader}
 use Rattle.jobs.specs.Text.{badLine, endLine, updateLine}
 use Rattle.jobs.specs.Memory.{startMemory}
 use Rattle.jobs.specs.Play.{lineOf, answerAt, ending, textFrom, powerUp, textBy, textOf, IsPlayed}
-use Rattle.jobs.specs.Output.{Put, Remains, lineBy, Turned, Holds}
+use Rattle.jobs.specs.Output.{Put, Remains, lineBy, Turned, Holds, lineMost, endingMost}
 use Rattle.jobs.specs.declared.header.Job.{Job}
 use Rattle.jobs.specs.declared.header.Header.{Header}
 use Rattle.jobs.specs.declared.header.Header.the-variants as header
@@ -43,14 +43,14 @@ line-is i number (some b) after = refl
 line-is i number none after = refl
 
 pub turned : (file : List ℕ) (i : ℕ) {r : Registers} {m m′ o o′ : List ℕ} {at at′ : ℕ} {t : Turn}
-    → IsTurn numbers0713 r m (cycleAt file i .0) (cycleAt file i .1) t m′ → Put o at (lineBy i (t .number) (t .read) (t .byte)) o′ at′ 44
+    → IsTurn sheet0713 r m (cycleAt file i .0) (cycleAt file i .1) t m′ → Put o at (lineBy i (t .number) (t .read) (t .byte)) o′ at′ lineMost
     → Turned file i (state r m) o at (state (t .registers) m′) o′ at′
 turned file i {r} {m} {o = o} {o′ = o′} {at = at} {at′ = at′} q p =
     let a = answerAt file i (state r m) in
     record {
       after = turn-steps q;
       line =
-          subst (λ (l : List ℕ). Put o at l o′ at′ 44)
+          subst (λ (l : List ℕ). Put o at l o′ at′ lineMost)
           (ap (λ (x : Turn). lineBy i (x .number) (x .read) (x .byte)) (q .tells) ∙ line-is i (a .number) (a .byte) (a .registers)) p;
     }
 
@@ -73,7 +73,7 @@ remains-end h p b = record { bytes = p .bytes ∙ sym (h .bytes); place = omega 
 -- a turn's step in what remains
 module _ (file : List ℕ) (j : Job) (i : ℕ) (s : State) where
   text-step : i < j .cycles → textFrom file j s i (j .cycles - i)
-      ≡ lineOf i (answerAt file i s) ++ textFrom file j (step numbers0713 s (cycleAt file i)) (i + 1) (j .cycles - (i + 1))
+      ≡ lineOf i (answerAt file i s) ++ textFrom file j (step sheet0713 s (cycleAt file i)) (i + 1) (j .cycles - (i + 1))
   unfolding textFrom
   text-step h = let e : j .cycles - i ≡ suc (j .cycles - (i + 1)) = omega arith in rw (e, add-one i)
 
@@ -88,12 +88,12 @@ module _ (file : List ℕ) (j : Job) (i : ℕ) (s : State) where
 -- ---- the last lines
 
 module _ (file : List ℕ) (j : Job) (s : State) {o o′ : List ℕ} {at a : ℕ} (p : Put o at (endLine (s .registers)) o′ a 214) where
-  pub ending-short : j .pictures < 2 → Put o at (ending file j s) o′ a 242
+  pub ending-short : j .pictures < 2 → Put o at (ending file j s) o′ a endingMost
   unfolding ending
   ending-short h = rw (lt-ltb _ _ h, append-nil (endLine (s .registers))) (put-most (omega arith) p)
 
   pub ending-long : {o″ : List ℕ} {b n : ℕ} → 2 ≤ j .pictures → n ≡ updateLength 132 (s .memory) (picture2 file (j .cycles))
-      → Put o′ a (updateLine n) o″ b 28 → Put o at (ending file j s) o″ b 242
+      → Put o′ a (updateLine n) o″ b 28 → Put o at (ending file j s) o″ b endingMost
   unfolding ending
   ending-long h e q = rw (le-ltb _ _ h, ← e) (put-then p q)
 
@@ -124,7 +124,7 @@ module _ (file : List ℕ) (j : Job) (h : Holds file j) (two : 2 ≤ j .pictures
 -- ---- the whole text of a job, and of a file
 
 pub good-whole : (file : List ℕ) (j : Job) {m o₀ o o′ u : List ℕ} {at r k n : ℕ} → m ≡ startMemory file j
-    → Remains (textFrom file j (poweredUp numbers0713 m) 0 (j .cycles)) o₀ o at u → Put o at u o′ r k → r ≤ n
+    → Remains (textFrom file j (poweredUp sheet0713 m) 0 (j .cycles)) o₀ o at u → Put o at u o′ r k → r ≤ n
     → Put o₀ 0 (textFrom file j (powerUp file j) 0 (j .cycles)) o′ r n
 good-whole file j e h q b = rw (← e) (remains-end h q b)
 

@@ -11,13 +11,13 @@ use native.Mathlib.Omega.{arith}
 use borrow.Author.Tests.{ltb-true, ltb-false, lt-ltb, le-ltb}
 use lib.Dec.{T, ltb}
 use lib.ListN.{length, drop}
-use Rattle.instructions.specs.Refusal.{shortOutput, shortJob, wrongHeader, wrongCycle}
-use Rattle.instructions.specs.Told.{refused}
-use Rattle.instructions.proofs.Telling.{apart, answerOf, not-given}
+use Rattle.paper.specs.Refusal.{shortOutput, shortJob, wrongHeader, wrongCycle}
+use Rattle.paper.specs.Told.{refused}
+use Rattle.paper.proofs.Telling.{apart, answerOf, not-given}
 use Rattle.controller.specs.Cycle.{malformed}
-use Rattle.instructions.proofs.Cases.{split, less}
-use Rattle.instructions.proofs.Either.{or-true}
-use Rattle.instructions.proofs.Exactly.{Exactly, then, both, same-number, here, past, nowhere}
+use Rattle.paper.proofs.Cases.{split, less}
+use Rattle.paper.proofs.Either.{or-true}
+use Rattle.paper.proofs.Exactly.{Exactly, then, both, same-number, here, past, nowhere}
 use Rattle.jobs.specs.Header.{wordAt, cycleAt, wrongCycles, headerOf, toldHeader, IsHeader}
 use Rattle.jobs.specs.Play.{textOf, longest, toldPlayed, IsPlayed}
 use Rattle.jobs.specs.declared.header.Header.{Header}

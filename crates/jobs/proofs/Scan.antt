@@ -8,11 +8,11 @@ use native.Mathlib.Numerals.{add-one}
 use native.Mathlib.Omega.{arith}
 use borrow.Author.Tests.{ltb-false, eqb-true, not-false, lt-ltb, le-ltb, eq-eqb}
 use lib.ListN.{length}
-use Rattle.instructions.specs.Refusal.{shortJob, wrongHeader, wrongCycle}
-use Rattle.instructions.specs.Told.{given, refused}
-use Rattle.instructions.proofs.Telling.{given-one, not-given}
+use Rattle.paper.specs.Refusal.{shortJob, wrongHeader, wrongCycle}
+use Rattle.paper.specs.Told.{given, refused}
+use Rattle.paper.proofs.Telling.{given-one, not-given}
 use Rattle.controller.specs.Cycle.{malformed}
-use Rattle.instructions.proofs.Cases.{split, less}
+use Rattle.paper.proofs.Cases.{split, less}
 use Rattle.jobs.specs.Header.{wordAt, cycleAt, wrongSizes, wrongCycles, headerOf, toldHeader, IsHeader}
 use Rattle.jobs.specs.Output.{Holds}
 use Rattle.jobs.specs.declared.header.Job.{Job}

@@ -6,8 +6,8 @@ use mathlib.Core.Bool.{Bool, false, cond, not, _||_}
 use mathlib.Core.List.{List}
 use lib.ListN.{length, getD, take, drop}
 use lib.Dec.{ltb, eqb}
-use Rattle.instructions.specs.Refusal.{shortJob, wrongHeader, wrongCycle}
-use Rattle.instructions.specs.Told.{Told, given, refused}
+use Rattle.paper.specs.Refusal.{shortJob, wrongHeader, wrongCycle}
+use Rattle.paper.specs.Told.{Told, given, refused}
 use Rattle.controller.specs.Cycle.{malformed}
 use Rattle.controller.specs.Run.{BusCycle}
 use Rattle.jobs.specs.declared.header.Job.{Job}

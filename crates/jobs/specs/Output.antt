@@ -7,13 +7,28 @@ use mathlib.Core.List.{List, [], _++_}
 use lib.ListN.{length}
 use lib.Dec.{eqb}
 use lib.Seq.{sets}
-use Rattle.instructions.specs.Numbers.{numbers0713}
+use Rattle.paper.specs.Sheet.{sheet0713}
 use Rattle.registers.specs.declared.Registers.{Registers}
 use Rattle.controller.specs.State.{State, step}
 use Rattle.jobs.specs.Header.{cycleAt}
 use Rattle.jobs.specs.Text.{field, newline, flag, modifyFlag, readLine, refusalLine}
 use Rattle.jobs.specs.Play.{lineOf, answerAt}
 use Rattle.jobs.specs.declared.header.Job.{Job}
+
+-- How far a text reaches as its parts count themselves, each number with the 20 digits that 64 bits can have: so many bytes for the
+-- line of a cycle, for all of them, for the last lines, and in all. A text is shorter (`longest`); these only keep every place in
+-- the output a number that can be reckoned with.
+abbrev pub lineMost : ℕ
+lineMost = 44
+
+abbrev pub linesMost : ℕ
+linesMost = 16000 * lineMost
+
+abbrev pub endingMost : ℕ
+endingMost = 242
+
+abbrev pub textMost : ℕ
+textMost = linesMost + endingMost
 
 -- `before` with `text` from `at` on, as far as it reaches, is `after`; `next` is the place past the text, at most `most` further
 pub record Put (before : List ℕ) (at : ℕ) (text after : List ℕ) (next most : ℕ) : Type 0 where
@@ -38,8 +53,8 @@ lineBy i number read byte = cond (eqb number 0) (cond (eqb read 0) [] (readLine 
 
 -- a turn: cycle i of a file from the state s, with the output o at `at`
 pub record Turned (file : List ℕ) (i : ℕ) (s : State) (o : List ℕ) (at : ℕ) (s′ : State) (o′ : List ℕ) (at′ : ℕ) : Type 0 where
-  pub after : s′ ≡ step numbers0713 s (cycleAt file i)
-  pub line : Put o at (lineOf i (answerAt file i s)) o′ at′ 44
+  pub after : s′ ≡ step sheet0713 s (cycleAt file i)
+  pub line : Put o at (lineOf i (answerAt file i s)) o′ at′ lineMost
 
 -- the end line from `on` on, and from SHL on
 abbrev pub lastFields : Registers → List ℕ

@@ -7,9 +7,9 @@ use mathlib.Core.Option.{Option, none, some}
 use mathlib.Core.List.{List, [], _++_}
 use lib.ListN.{length, drop}
 use lib.Dec.{ltb, eqb}
-use Rattle.instructions.specs.Refusal.{shortOutput}
-use Rattle.instructions.specs.Told.{Told, given, refused}
-use Rattle.instructions.specs.Numbers.{numbers0713}
+use Rattle.paper.specs.Refusal.{shortOutput}
+use Rattle.paper.specs.Told.{Told, given, refused}
+use Rattle.paper.specs.Sheet.{sheet0713}
 use Rattle.controller.specs.Cycle.{Outcome, answer}
 use Rattle.controller.specs.State.{State, poweredUp, step}
 use Rattle.streams.specs.Length.{updateLength}
@@ -31,7 +31,7 @@ lineOf i o = cond (eqb (o .number) 0) (byteLine i (o .byte)) (refusalLine i (o .
 
 -- what cycle i of a file answers
 abbrev pub answerAt : List ℕ → ℕ → State → Outcome
-answerAt file i s = answer numbers0713 (s .registers) (s .memory) (cycleAt file i .0) (cycleAt file i .1)
+answerAt file i s = answer sheet0713 (s .registers) (s .memory) (cycleAt file i .0) (cycleAt file i .1)
 
 -- the last lines
 unfoldable pub ending : List ℕ → Job → State → List ℕ
@@ -41,11 +41,11 @@ ending file j s =
 -- the text from cycle i on, with n cycles left
 unfoldable pub textFrom : List ℕ → Job → State → ℕ → ℕ → List ℕ
 textFrom file j s i zero = ending file j s
-textFrom file j s i (suc n) = lineOf i (answerAt file i s) ++ textFrom file j (step numbers0713 s (cycleAt file i)) (suc i) n
+textFrom file j s i (suc n) = lineOf i (answerAt file i s) ++ textFrom file j (step sheet0713 s (cycleAt file i)) (suc i) n
 
 -- the chip at power-up
 abbrev pub powerUp : List ℕ → Job → State
-powerUp file j = poweredUp numbers0713 (startMemory file j)
+powerUp file j = poweredUp sheet0713 (startMemory file j)
 
 -- the text of a good job, and of any file: a refused one gives the one line `bad` and the number
 unfoldable pub textBy : List ℕ → ℕ → Option Job → List ℕ

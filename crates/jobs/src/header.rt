@@ -1,8 +1,8 @@
 // A job file's header and its cycles: what is refused, and with which number.
 use controller::cycle::not_a_cycle;
-use instructions::refusal::SHORT_JOB;
-use instructions::refusal::WRONG_CYCLE;
-use instructions::refusal::WRONG_HEADER;
+use paper::refusal::SHORT_JOB;
+use paper::refusal::WRONG_CYCLE;
+use paper::refusal::WRONG_HEADER;
 ghost use mathlib.Core.Path.{_≡_};
 ghost use Prim.Native.Nat.{_+_, _*_, _<_, _≤_};
 ghost use lib.ListN.{length};

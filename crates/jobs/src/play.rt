@@ -9,7 +9,7 @@ use crate::text::put_read;
 use crate::text::put_refusal;
 use crate::text::put_update;
 use controller::turn::take_turn;
-use instructions::refusal::SHORT_OUTPUT;
+use paper::refusal::SHORT_OUTPUT;
 use planner::count::Count;
 use planner::length::update_length;
 use registers::Registers;
@@ -17,12 +17,12 @@ use registers::start::power_up;
 ghost use mathlib.Core.Path.{_≡_};
 ghost use Prim.Native.Nat.{_+_, _*_, _<_, _≤_};
 ghost use lib.ListN.{length};
-ghost use Rattle.instructions.specs.Numbers.{numbers0713};
+ghost use Rattle.paper.specs.Sheet.{sheet0713};
 ghost use Rattle.controller.specs.State.{state, poweredUp};
 ghost use Rattle.streams.specs.Length.{updateLength};
 ghost use Rattle.jobs.specs.Header.{picture2};
 ghost use Rattle.jobs.specs.Play.{ending, textFrom, powerUp, textOf, IsPlayed};
-ghost use Rattle.jobs.specs.Output.{Put, Remains, Turned, Holds, lineBy};
+ghost use Rattle.jobs.specs.Output.{Put, Remains, Turned, Holds, lineBy, lineMost, linesMost, endingMost, textMost};
 
 // The length of the text, or the number of a refusal.
 pub enum Played {
@@ -38,8 +38,8 @@ struct After {
 
 // A cycle's line, where it has one: that of its refusal, or of the byte that it read.
 fn put_line(out: &mut [u8], at: usize, i: usize, number: u8, read: u8, byte: u8) -> usize
-    requires { ⌜ at < 1000000 ⌝ }
-    ensures { λ r. ⌜ Put (now (out .entry)) at (lineBy i number read byte) (now (out .exit)) r 44 ⌝ }
+    requires { ⌜ at + lineMost ≤ textMost ⌝ }
+    ensures { λ r. ⌜ Put (now (out .entry)) at (lineBy i number read byte) (now (out .exit)) r lineMost ⌝ }
 {
     if number != 0 {
         return put_refusal(out, at, i, number);
@@ -59,7 +59,7 @@ fn play_cycle(
     out: &mut [u8],
     at: usize,
 ) -> After
-    requires { ⌜ (10 + 2 * i ≤ length (now file)) × (at < 1000000) ⌝ }
+    requires { ⌜ (10 + 2 * i ≤ length (now file)) × (at + lineMost ≤ textMost) ⌝ }
     ensures { λ a. ⌜ Turned (now (file .entry)) i (state registers (now (memory .entry))) (now (out .entry)) at
         (state (a .registers) (now (memory .exit))) (now (out .exit)) (a .at) ⌝ }
 {
@@ -84,8 +84,8 @@ fn play_cycle(
 // All the cycles, from power-up: what is left to put is the ending.
 fn play_cycles(file: &[u8], job: Job, memory: &mut [u8], out: &mut [u8]) -> After
     requires { ⌜ Holds (now file) job ⌝ }
-    ensures { λ a. ⌜ Remains (textFrom (now (file .entry)) job (poweredUp numbers0713 (now (memory .entry))) 0 (job .cycles)) (now (out .entry)) (now (out .exit)) (a .at)
-        (ending (now (file .entry)) job (state (a .registers) (now (memory .exit)))) × (a .at ≤ 704000) ⌝ }
+    ensures { λ a. ⌜ Remains (textFrom (now (file .entry)) job (poweredUp sheet0713 (now (memory .entry))) 0 (job .cycles)) (now (out .entry)) (now (out .exit)) (a .at)
+        (ending (now (file .entry)) job (state (a .registers) (now (memory .exit)))) × (a .at ≤ linesMost) ⌝ }
 {
     let mut after = After {
         registers: power_up(),
@@ -122,8 +122,8 @@ fn finish(
     out: &mut [u8],
     at: usize,
 ) -> usize
-    requires { ⌜ Holds (now file) job × (length (now memory) ≡ 1188) × (at ≤ 704000) ⌝ }
-    ensures { λ a. ⌜ Put (now (out .entry)) at (ending (now (file .entry)) job (state registers (now (memory .entry)))) (now (out .exit)) a 242 ⌝ }
+    requires { ⌜ Holds (now file) job × (length (now memory) ≡ 1188) × (at ≤ linesMost) ⌝ }
+    ensures { λ a. ⌜ Put (now (out .entry)) at (ending (now (file .entry)) job (state registers (now (memory .entry)))) (now (out .exit)) a endingMost ⌝ }
 {
     let next = put_end(out, at, registers);
     if job.pictures < 2 {
@@ -136,7 +136,7 @@ fn finish(
 // The text of a good job.
 fn put_good(file: &[u8], job: Job, out: &mut [u8]) -> usize
     requires { ⌜ Holds (now file) job ⌝ }
-    ensures { λ r. ⌜ Put (now (out .entry)) 0 (textFrom (now (file .entry)) job (powerUp (now (file .entry)) job) 0 (job .cycles)) (now (out .exit)) r 704242 ⌝ }
+    ensures { λ r. ⌜ Put (now (out .entry)) 0 (textFrom (now (file .entry)) job (powerUp (now (file .entry)) job) 0 (job .cycles)) (now (out .exit)) r textMost ⌝ }
 {
     let mut memory = start_memory(file, job);
     let after = play_cycles(file, job, &mut memory, out);
@@ -145,7 +145,7 @@ fn put_good(file: &[u8], job: Job, out: &mut [u8]) -> usize
 
 // The text of any file, as much of it as the output has room for: answers its whole length.
 fn put_text(file: &[u8], out: &mut [u8]) -> usize
-    ensures { λ r. ⌜ Put (now (out .entry)) 0 (textOf (now (file .entry))) (now (out .exit)) r 704242 ⌝ }
+    ensures { λ r. ⌜ Put (now (out .entry)) 0 (textOf (now (file .entry))) (now (out .exit)) r textMost ⌝ }
 {
     match read_header(file) {
         Header::Good(job) => put_good(file, job, out),

@@ -4,13 +4,13 @@ use registers::ModifyRead;
 use registers::Registers;
 ghost use mathlib.Core.Path.{_≡_};
 ghost use mathlib.Core.List.{[], _∷_};
-ghost use Prim.Native.Nat.{_<_, _≤_};
+ghost use Prim.Native.Nat.{_+_, _<_, _≤_};
 ghost use Rattle.jobs.specs.Text.{digit, hex, decimalUpTo, field, flag, modifyFlag, readLine, refusalLine, badLine, endLine, updateLine};
-ghost use Rattle.jobs.specs.Output.{Put, flagFields, lastFields};
+ghost use Rattle.jobs.specs.Output.{Put, textMost, lineMost, flagFields, lastFields};
 
 // One byte.
 fn put_byte(out: &mut [u8], at: usize, byte: u8) -> usize
-    requires { ⌜ at < 4000000 ⌝ }
+    requires { ⌜ at < textMost ⌝ }
     ensures { λ r. ⌜ Put (now (out .entry)) at (byte ∷ []) (now (out .exit)) r 1 ⌝ }
 {
     if at < out.len() {
@@ -30,7 +30,7 @@ fn digit(d: usize) -> u8
 
 // The decimal digits of n, where there are at most `most`.
 fn put_digits(out: &mut [u8], at: usize, n: usize, most: usize) -> usize
-    requires { ⌜ (at < 3000000) × (most ≤ 20) ⌝ }
+    requires { ⌜ at + most ≤ textMost ⌝ }
     ensures { λ r. ⌜ Put (now (out .entry)) at (decimalUpTo most n) (now (out .exit)) r most ⌝ }
 {
     if most == 0 {
@@ -45,7 +45,7 @@ fn put_digits(out: &mut [u8], at: usize, n: usize, most: usize) -> usize
 
 // A space and a number.
 fn put_field(out: &mut [u8], at: usize, n: usize) -> usize
-    requires { ⌜ at < 2000000 ⌝ }
+    requires { ⌜ at + 21 ≤ textMost ⌝ }
     ensures { λ r. ⌜ Put (now (out .entry)) at (field n) (now (out .exit)) r 21 ⌝ }
 {
     let a = put_byte(out, at, b' ');
@@ -54,7 +54,7 @@ fn put_field(out: &mut [u8], at: usize, n: usize) -> usize
 
 // A byte as two hex digits.
 fn put_hex(out: &mut [u8], at: usize, byte: u8) -> usize
-    requires { ⌜ at < 3000000 ⌝ }
+    requires { ⌜ at + 2 ≤ textMost ⌝ }
     ensures { λ r. ⌜ Put (now (out .entry)) at (hex byte) (now (out .exit)) r 2 ⌝ }
 {
     let b = byte as usize;
@@ -64,7 +64,7 @@ fn put_hex(out: &mut [u8], at: usize, byte: u8) -> usize
 
 // The line of a read.
 pub(crate) fn put_read(out: &mut [u8], at: usize, i: usize, byte: u8) -> usize
-    requires { ⌜ at < 1000000 ⌝ }
+    requires { ⌜ at + 26 ≤ textMost ⌝ }
     ensures { λ r. ⌜ Put (now (out .entry)) at (readLine i byte) (now (out .exit)) r 26 ⌝ }
 {
     let a1 = put_byte(out, at, b'r');
@@ -76,8 +76,8 @@ pub(crate) fn put_read(out: &mut [u8], at: usize, i: usize, byte: u8) -> usize
 
 // The line of a refused cycle.
 pub(crate) fn put_refusal(out: &mut [u8], at: usize, i: usize, number: u8) -> usize
-    requires { ⌜ at < 1000000 ⌝ }
-    ensures { λ r. ⌜ Put (now (out .entry)) at (refusalLine i number) (now (out .exit)) r 44 ⌝ }
+    requires { ⌜ at + lineMost ≤ textMost ⌝ }
+    ensures { λ r. ⌜ Put (now (out .entry)) at (refusalLine i number) (now (out .exit)) r lineMost ⌝ }
 {
     let a1 = put_byte(out, at, b'x');
     let a2 = put_field(out, a1, i);
@@ -87,7 +87,7 @@ pub(crate) fn put_refusal(out: &mut [u8], at: usize, i: usize, number: u8) -> us
 
 // Three letters.
 fn put_letters(out: &mut [u8], at: usize, a: u8, b: u8, c: u8) -> usize
-    requires { ⌜ at < 3000000 ⌝ }
+    requires { ⌜ at + 3 ≤ textMost ⌝ }
     ensures { λ r. ⌜ Put (now (out .entry)) at (a ∷ b ∷ c ∷ []) (now (out .exit)) r 3 ⌝ }
 {
     let a1 = put_byte(out, at, a);
@@ -97,7 +97,7 @@ fn put_letters(out: &mut [u8], at: usize, a: u8, b: u8, c: u8) -> usize
 
 // The one line of a refused file.
 pub(crate) fn put_bad(out: &mut [u8], at: usize, number: u8) -> usize
-    requires { ⌜ at < 1000000 ⌝ }
+    requires { ⌜ at + 25 ≤ textMost ⌝ }
     ensures { λ r. ⌜ Put (now (out .entry)) at (badLine number) (now (out .exit)) r 25 ⌝ }
 {
     let a1 = put_letters(out, at, b'b', b'a', b'd');
@@ -114,7 +114,7 @@ fn flag(f: bool) -> usize
 
 // 0 or 1, after a space.
 fn put_flag(out: &mut [u8], at: usize, f: bool) -> usize
-    requires { ⌜ at < 2000000 ⌝ }
+    requires { ⌜ at + 21 ≤ textMost ⌝ }
     ensures { λ r. ⌜ Put (now (out .entry)) at (field (flag f)) (now (out .exit)) r 21 ⌝ }
 {
     put_field(out, at, flag(f))
@@ -132,7 +132,7 @@ fn modify_flag(mode: ModifyRead) -> usize
 
 // The end line's last three numbers.
 fn put_last(out: &mut [u8], at: usize, registers: Registers) -> usize
-    requires { ⌜ at < 1900000 ⌝ }
+    requires { ⌜ at + 64 ≤ textMost ⌝ }
     ensures { λ r. ⌜ Put (now (out .entry)) at (lastFields registers) (now (out .exit)) r 64 ⌝ }
 {
     let mode = registers.modify_read;
@@ -144,7 +144,7 @@ fn put_last(out: &mut [u8], at: usize, registers: Registers) -> usize
 
 // The end line's flags, and the numbers after them.
 fn put_flags(out: &mut [u8], at: usize, registers: Registers) -> usize
-    requires { ⌜ at < 1800000 ⌝ }
+    requires { ⌜ at + 148 ≤ textMost ⌝ }
     ensures { λ r. ⌜ Put (now (out .entry)) at (flagFields registers) (now (out .exit)) r 148 ⌝ }
 {
     let a1 = put_flag(out, at, registers.shl);
@@ -156,7 +156,7 @@ fn put_flags(out: &mut [u8], at: usize, registers: Registers) -> usize
 
 // The line after the cycles.
 pub(crate) fn put_end(out: &mut [u8], at: usize, registers: Registers) -> usize
-    requires { ⌜ at < 1000000 ⌝ }
+    requires { ⌜ at + 214 ≤ textMost ⌝ }
     ensures { λ r. ⌜ Put (now (out .entry)) at (endLine registers) (now (out .exit)) r 214 ⌝ }
 {
     let a1 = put_letters(out, at, b'e', b'n', b'd');
@@ -168,7 +168,7 @@ pub(crate) fn put_end(out: &mut [u8], at: usize, registers: Registers) -> usize
 
 // The line of the update's length.
 pub(crate) fn put_update(out: &mut [u8], at: usize, n: usize) -> usize
-    requires { ⌜ at < 1000000 ⌝ }
+    requires { ⌜ at + 28 ≤ textMost ⌝ }
     ensures { λ r. ⌜ Put (now (out .entry)) at (updateLine n) (now (out .exit)) r 28 ⌝ }
 {
     let a1 = put_letters(out, at, b'u', b'p', b'd');

@@ -1,4 +1,4 @@
--- Numbers and values name the instructions one for one: every instruction is named by its number and value, and whatever a number
+-- Sheet and values name the instructions one for one: every instruction is named by its number and value, and whatever a number
 -- and a value name has just that number and value.
 -- Assumes nothing.
 use Prim.Native.Nat.{ℕ, suc, _≤_}
@@ -10,8 +10,8 @@ use lib.Dec.{ltb, eqb}
 use borrow.Author.Tests.{ltb-false, eqb-true, eqb-false}
 use Rattle.instructions.specs.declared.instruction.Instruction.{Instruction}
 use Rattle.instructions.specs.declared.instruction.Instruction.the-variants.{ColumnLow, ColumnHigh, Resistor, Power, StartLine, ContrastNext, ContrastValue, Adc, Bias, Entire, Reverse, IndicatorOff, IndicatorOn, IndicatorValue, Display, Page, Shl, ModifyReadOn, ModifyReadOff, Reset, Nop}
-use Rattle.instructions.proofs.Cases.{split}
-use Rattle.instructions.proofs.Either.{or-left, or-right}
+use Rattle.paper.proofs.Cases.{split}
+use Rattle.paper.proofs.Either.{or-left, or-right}
 use Rattle.state.specs.Packed.{flagByte}
 use Rattle.panel.specs.Bytes.{numberOf, valueOf, numbered, takesFlag, takesNone, unnamed, byNumber, named}
 use Rattle.state.proofs.Packing.{flag-kept}

@@ -11,9 +11,9 @@ use native.Mathlib.Omega.{arith}
 use lib.ListN.{length}
 use lib.Dec.{T, ltb}
 use borrow.Author.Tests.{ltb-false, le-ltb}
-use Rattle.instructions.specs.Refusal.{wrongSize, outOfRange, outsideField}
-use Rattle.instructions.specs.Told.{refused}
-use Rattle.instructions.specs.Numbers.{numbers0713}
+use Rattle.paper.specs.Refusal.{wrongSize, outOfRange, outsideField}
+use Rattle.paper.specs.Told.{refused}
+use Rattle.paper.specs.Sheet.{sheet0713}
 use Rattle.instructions.specs.Read.{toldReading, assigned, nothingAwaited, IsRead}
 use Rattle.instructions.specs.Write.{toldWriting, OutsideField}
 use Rattle.instructions.specs.declared.instruction.Awaited.{Awaited}
@@ -23,7 +23,7 @@ use Rattle.instructions.specs.declared.read.Reading.{Reading}
 use Rattle.instructions.specs.declared.read.Reading.the-variants as reading
 use Rattle.instructions.specs.declared.write.Writing.{Writing}
 use Rattle.instructions.proofs.Unique.{read-one, written-one, read-some, unread-4, number-written-6}
-use Rattle.instructions.proofs.Sensible.{sensible0713}
+use Rattle.paper.proofs.Sensible.{sensible0713}
 use Rattle.instructions.proofs.Fits.{Fits}
 use Rattle.registers.specs.Registers.{outside}
 use Rattle.registers.specs.declared.Registers.{Registers}
@@ -37,20 +37,20 @@ use Rattle.glass.specs.Power.{toldPower}
 use Rattle.glass.specs.Voltage.{toldVoltage, v0Of}
 use Rattle.glass.proofs.Promised.{power-one, voltage-one, shown-one}
 use Rattle.streams.specs.Length.{updateLength}
-use Rattle.instructions.proofs.Cases.{split, less}
+use Rattle.paper.proofs.Cases.{split, less}
 use Rattle.planner.specs.Pictures.{misfit}
 use Rattle.planner.specs.First.{toldFound}
 use Rattle.planner.specs.Count.{toldCount}
 use Rattle.planner.specs.Sent.{updateRefusal, redrawRefusal, IsUpdate, IsRedraw}
 use Rattle.planner.specs.declared.count.Count.{Count}
 use Rattle.planner.specs.declared.count.Count.the-variants as count
-use Rattle.instructions.proofs.Exactly.{Exactly, then, both, same-number, past, only}
+use Rattle.paper.proofs.Exactly.{Exactly, then, both, same-number, past, only}
 use Rattle.planner.proofs.Exactly.{RightSize, ShortOutput, misfit-yes, misfit-no, wrong-size, right-size}
-use Rattle.instructions.proofs.Either.{or-left, or-right}
+use Rattle.paper.proofs.Either.{or-left, or-right}
 use Rattle.planner.proofs.Scanning.{first-given}
 use Rattle.planner.proofs.Promised.{first-one, first-1, length-one, update-one, update-1, update-5, update-only, redraw-one, redraw-1, redraw-6, redraw-5, redraw-only}
-use Rattle.instructions.specs.Answers.{leftBy}
-use Rattle.instructions.proofs.Answering.{answers-one, if-split, if-both, test-number, number-number}
+use Rattle.paper.specs.Answers.{leftBy}
+use Rattle.paper.proofs.Answering.{answers-one, if-split, if-both, test-number, number-number}
 use Rattle.state.specs.Packed.{packed, unpacked, awaitedOf}
 use Rattle.state.specs.Unfit.{unfit, unfitNumber}
 use Rattle.panel.specs.Chip.{PowerUpOut, CycleOut, FrameOut, PowerOut, VoltageOut}
@@ -66,10 +66,10 @@ power-up-one f g = (f .left ∙ ap packed (powered-one (f .promised) (g .promise
 pub power-up-0 : {s : List ℕ} {r : ℕ} → PowerUpOut s r → r ≡ 0
 power-up-0 f = f .number
 
-pub power-up-accepted : {s : List ℕ} {r : ℕ} → PowerUpOut s r → Accepted numbers0713 s
+pub power-up-accepted : {s : List ℕ} {r : ℕ} → PowerUpOut s r → Accepted sheet0713 s
 power-up-accepted f =
-    subst (Accepted numbers0713) (sym (f .left))
-    (packed-accepted numbers0713 (f .registers) (ranged numbers0713 _ (powered-ranged numbers0713 sensible0713 (f .registers) (f .promised))))
+    subst (Accepted sheet0713) (sym (f .left))
+    (packed-accepted sheet0713 (f .registers) (ranged sheet0713 _ (powered-ranged sheet0713 sensible0713 (f .registers) (f .promised))))
 
 -- ---- one cycle
 
@@ -88,21 +88,21 @@ module _ (s m : List ℕ) (kind value read byte : ℕ) where
       )
 
   module _ (h : value < 256) {s′ m′ : List ℕ} {read′ byte′ r : ℕ} (f : CycleOut s m kind value read byte s′ m′ read′ byte′ r) where
-    pub cycle-number : r ≡ cond (unfit s) (unfitNumber (misfit 132 m)) (cycleNumber numbers0713 (length m) (unpacked s) kind value)
+    pub cycle-number : r ≡ cond (unfit s) (unfitNumber (misfit 132 m)) (cycleNumber sheet0713 (length m) (unpacked s) kind value)
     cycle-number = f .number ∙ if-split (unfit s) (f .promised)
         (λ t p. ap (λ a. outcome a .number) (p .0) ∙ rw t refl)
-        (λ t p. ap (λ o. o .number) (p .tells) ∙ number-exactly numbers0713 (unpacked s) value h m kind ∙ rw t refl)
+        (λ t p. ap (λ o. o .number) (p .tells) ∙ number-exactly sheet0713 (unpacked s) value h m kind ∙ rw t refl)
 
-    pub cycle-0 : Exactly (r ≡ 0) ((unfit s ≡ false) × (cycleNumber numbers0713 (length m) (unpacked s) kind value ≡ 0))
+    pub cycle-0 : Exactly (r ≡ 0) ((unfit s ≡ false) × (cycleNumber sheet0713 (length m) (unpacked s) kind value ≡ 0))
     cycle-0 = then (same-number cycle-number) (past (unfit s) _ _ 0 (unfit-some (misfit 132 m)))
 
   -- a state that is accepted stays one: whatever the cycle, the state that it leaves is fit and in range again
-  pub cycle-again : {s′ m′ : List ℕ} {read′ byte′ r : ℕ} → CycleOut s m kind value read byte s′ m′ read′ byte′ r → Accepted numbers0713 s → Accepted numbers0713 s′
+  pub cycle-again : {s′ m′ : List ℕ} {read′ byte′ r : ℕ} → CycleOut s m kind value read byte s′ m′ read′ byte′ r → Accepted sheet0713 s → Accepted sheet0713 s′
   cycle-again f a = if-split (unfit s) (f .promised) (λ t p. absurd (subst T (sym t ∙ a .0) tt))
-      (λ t p. accepted-left numbers0713 s (outcome (f .answer) .registers) a
-      (λ q e. subst (λ (x : Option Registers). outside numbers0713 (afterBy (unpacked s) x) ≡ false) e
-      (subst (λ o. outside numbers0713 (afterBy (unpacked s) (o .registers)) ≡ false) (sym (p .tells))
-      (ranged numbers0713 _ (stays-ranged numbers0713 sensible0713 (unpacked s) m kind value (ranges numbers0713 (unpacked s) (a .1))))))
+      (λ t p. accepted-left sheet0713 s (outcome (f .answer) .registers) a
+      (λ q e. subst (λ (x : Option Registers). outside sheet0713 (afterBy (unpacked s) x) ≡ false) e
+      (subst (λ o. outside sheet0713 (afterBy (unpacked s) (o .registers)) ≡ false) (sym (p .tells))
+      (ranged sheet0713 _ (stays-ranged sheet0713 sensible0713 (unpacked s) m kind value (ranges sheet0713 (unpacked s) (a .1))))))
       (f .state-left))
 
 -- ---- the glass
@@ -114,12 +114,12 @@ module _ (s m frame : List ℕ) where
       (p .1, f .number ∙ ap (λ a. toldShown a .number) (p .0) ∙ sym (g .number))
 
   module _ {l : List ℕ} {r : ℕ} (f : FrameOut s m frame l r) where
-    pub frame-number : r ≡ cond (unfit s) (unfitNumber (misfit 132 m || misfit 132 frame)) (refusal numbers0713 (unpacked s) (length m) (length frame))
+    pub frame-number : r ≡ cond (unfit s) (unfitNumber (misfit 132 m || misfit 132 frame)) (refusal sheet0713 (unpacked s) (length m) (length frame))
     frame-number = f .number ∙ if-split (unfit s) (f .promised)
         (λ t p. ap (λ a. toldShown a .number) (p .0) ∙ rw t refl)
-        (λ t p. ap (λ o. o .number) (p .tells) ∙ number-number (refusal numbers0713 (unpacked s) (length m) (length frame)) tt ∙ rw t refl)
+        (λ t p. ap (λ o. o .number) (p .tells) ∙ number-number (refusal sheet0713 (unpacked s) (length m) (length frame)) tt ∙ rw t refl)
 
-    pub frame-0 : Exactly (r ≡ 0) ((unfit s ≡ false) × (refusal numbers0713 (unpacked s) (length m) (length frame) ≡ 0))
+    pub frame-0 : Exactly (r ≡ 0) ((unfit s ≡ false) × (refusal sheet0713 (unpacked s) (length m) (length frame) ≡ 0))
     frame-0 = then (same-number frame-number) (past (unfit s) _ _ 0 (unfit-some (misfit 132 m || misfit 132 frame)))
 
 module _ (s : List ℕ) (answer : ℕ) where
@@ -128,15 +128,15 @@ module _ (s : List ℕ) (answer : ℕ) where
       answers-one (ap toldPower (if-both (unfit s) (f .promised) (g .promised) (λ p q. p ∙ sym q) (λ p q. power-one p q))) (f .answers) (g .answers)
 
   module _ {a r : ℕ} (f : PowerOut s answer a r) where
-    pub power-state-number : r ≡ cond (unfit s) outOfRange (cond (outside numbers0713 (unpacked s)) outOfRange 0)
+    pub power-state-number : r ≡ cond (unfit s) outOfRange (cond (outside sheet0713 (unpacked s)) outOfRange 0)
     power-state-number = f .answers .number ∙ if-split (unfit s) (f .promised)
         (λ t p. ap (λ a. toldPower a .number) p ∙ rw t refl)
-        (λ t p. ap (λ o. o .number) (p .tells) ∙ test-number (outside numbers0713 (unpacked s)) outOfRange _ ∙ rw t refl)
+        (λ t p. ap (λ o. o .number) (p .tells) ∙ test-number (outside sheet0713 (unpacked s)) outOfRange _ ∙ rw t refl)
 
-    pub power-state-0 : Exactly (r ≡ 0) (Accepted numbers0713 s)
+    pub power-state-0 : Exactly (r ≡ 0) (Accepted sheet0713 s)
     power-state-0 =
         then (same-number power-state-number)
-        (then (past (unfit s) outOfRange _ 0 (λ e. omega arith)) (both (λ e. e, λ e. e) (only (outside numbers0713 (unpacked s)) outOfRange (λ e. omega arith))))
+        (then (past (unfit s) outOfRange _ 0 (λ e. omega arith)) (both (λ e. e, λ e. e) (only (outside sheet0713 (unpacked s)) outOfRange (λ e. omega arith))))
 
 module _ (resistor contrast before : ℕ) where
   pub v0-one : {a b r r′ : ℕ} → VoltageOut resistor contrast before a r → VoltageOut resistor contrast before b r′ → (a ≡ b) × (r ≡ r′)
@@ -162,11 +162,11 @@ module _ (aw byte : ℕ) (before : ℕ × ℕ) where
       answers-one (ap toldReading (if-both (ltb 2 aw) (f .promised) (g .promised) (λ p q. p ∙ sym q) (λ p q. read-one p q))) (f .answers) (g .answers)
 
   -- the reader's number: 4 where nothing is awaited and the byte is unassigned
-  unassigned-number : byte < 256 → (w : Awaited) (a : Reading) → IsRead numbers0713 w byte a → toldReading a .number ≡ cond (nothingAwaited w && not (assigned byte)) 4 0
-  unassigned-number h awaited.Nothing (reading.ReadAs i) p = rw (read-some numbers0713 byte h i (sym (ap (λ t. t .value) (p .tells))))
+  unassigned-number : byte < 256 → (w : Awaited) (a : Reading) → IsRead sheet0713 w byte a → toldReading a .number ≡ cond (nothingAwaited w && not (assigned byte)) 4 0
+  unassigned-number h awaited.Nothing (reading.ReadAs i) p = rw (read-some sheet0713 byte h i (sym (ap (λ t. t .value) (p .tells))))
   unassigned-number h awaited.Contrast (reading.ReadAs i) p = refl
   unassigned-number h awaited.Indicator (reading.ReadAs i) p = refl
-  unassigned-number h w (reading.Unread n) p = let u = unread-4 numbers0713 byte h w n p in rw (u .1, u .2) (u .0)
+  unassigned-number h w (reading.Unread n) p = let u = unread-4 sheet0713 byte h w n p in rw (u .1, u .2) (u .0)
 
   module _ (h : byte < 256) {a : ℕ × ℕ} {r : ℕ} (f : ReadOut aw byte before a r) where
     pub read-number : r ≡ cond (ltb 2 aw) outOfRange (cond (nothingAwaited (awaitedOf aw) && not (assigned byte)) 4 0)
@@ -182,12 +182,12 @@ module _ (aw byte : ℕ) (before : ℕ × ℕ) where
 
 -- a number and a value name an instruction, and its value is inside its field
 abbrev pub Writable : Option Instruction → Type 0
-Writable (some i) = Fits numbers0713 i
+Writable (some i) = Fits sheet0713 i
 Writable none = ⊥
 
 -- they name none, or a value outside its field
 abbrev pub Unwritable : Option Instruction → Type 0
-Unwritable (some i) = OutsideField numbers0713 i
+Unwritable (some i) = OutsideField sheet0713 i
 Unwritable none = Unit {0}
 
 module _ (number value byte : ℕ) where
@@ -207,7 +207,7 @@ module _ (number value byte : ℕ) where
   write-0 {r = r} f = writable (named number value) (f .answer) r (f .promised) (f .answers .number)
 
   unwritable : (x : Option Instruction) (a : Writing) (r : ℕ) → WrittenIf x a → r ≡ toldWriting a .number → Exactly (r ≡ outsideField) (Unwritable x)
-  unwritable (some i) a r p e = then (same-number (e ∙ ap (λ t. t .number) (p .tells))) (number-written-6 numbers0713 i)
+  unwritable (some i) a r p e = then (same-number (e ∙ ap (λ t. t .number) (p .tells))) (number-written-6 sheet0713 i)
   unwritable none a r p e = (λ z. tt, λ z. e ∙ ap (λ a. toldWriting a .number) p)
 
   -- 6 exactly if they name no instruction, or its value is outside its field

@@ -5,15 +5,15 @@ use Prim.Native.Nat.{ℕ}
 use mathlib.Core.Path.{_≡_, _∙_, refl, ap}
 use mathlib.Core.Logic.{_≢_, inl, inr}
 use mathlib.Core.List.{List}
-use Rattle.instructions.specs.Numbers.{numbers0713}
+use Rattle.paper.specs.Sheet.{sheet0713}
 use Rattle.instructions.specs.Read.{toldReading}
 use Rattle.instructions.specs.Write.{toldWriting}
 use Rattle.instructions.specs.declared.read.Reading.{Reading}
 use Rattle.instructions.specs.declared.read.Reading.the-variants as reading
 use Rattle.instructions.specs.declared.write.Writing.{Writing}
 use Rattle.instructions.specs.declared.write.Writing.the-variants as writing
-use Rattle.instructions.proofs.Sensible.{sensible0713}
-use Rattle.instructions.proofs.Answering.{if-split, Silent, refusal-leaves}
+use Rattle.paper.proofs.Sensible.{sensible0713}
+use Rattle.paper.proofs.Answering.{if-split, Silent, refusal-leaves}
 use Rattle.controller.specs.Cycle.{outcome}
 use Rattle.controller.specs.declared.cycle.Answer.{Answer}
 use Rattle.controller.specs.declared.cycle.Answer.the-variants as cycle
@@ -82,7 +82,7 @@ module _ (s m : List ℕ) (kind value read byte : ℕ) {s′ m′ : List ℕ} {r
       by-answer (cycle.Read n b) p e = absurd (h (f .number ∙ ap (λ a. outcome a .number) e))
       by-answer (cycle.Refused n) p e = (
         rw e at (f .state-left),
-        if-split (unfit s) p (λ t q. q .1) (λ t q. cycled-refused-leaves numbers0713 sensible0713 q .1),
+        if-split (unfit s) p (λ t q. q .1) (λ t q. cycled-refused-leaves sheet0713 sensible0713 q .1),
         rw e at (f .read-left),
         rw e at (f .byte-left),
       )

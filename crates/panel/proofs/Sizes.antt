@@ -7,9 +7,9 @@ use mathlib.Core.List.{List}
 use lib.ListN.{length}
 use lib.Dec.{eqb}
 use borrow.Author.Tests.{eqb-true, eqb-false}
-use Rattle.instructions.specs.Numbers.{numbers0713}
-use Rattle.instructions.specs.declared.numbers.Numbers.{Numbers}
-use Rattle.instructions.proofs.Cases.{split}
+use Rattle.paper.specs.Sheet.{sheet0713}
+use Rattle.paper.specs.declared.sheet.Sheet.{Sheet}
+use Rattle.paper.proofs.Cases.{split}
 use Rattle.planner.specs.Pictures.{misfit}
 use Rattle.planner.proofs.Exactly.{misfit-yes, misfit-no}
 
@@ -18,9 +18,9 @@ at-width m = split (eqb (length m) 1188)
     (λ t. rw t (sym (misfit-no 132 m .1 (eqb-true (length m) 1188 t))))
     (λ t. rw t (sym (misfit-yes 132 m .1 (eqb-false (length m) 1188 t))))
 
-pub sized : (k : Numbers) (m : List ℕ) → k ≡ numbers0713 → not (eqb (length m) (9 * k .width)) ≡ misfit 132 m
+pub sized : (k : Sheet) (m : List ℕ) → k ≡ sheet0713 → not (eqb (length m) (9 * k .width)) ≡ misfit 132 m
 sized k m e = rw e (at-width m)
 
-pub both-sized : (k : Numbers) (m n : List ℕ) → k ≡ numbers0713
+pub both-sized : (k : Sheet) (m n : List ℕ) → k ≡ sheet0713
     → (not (eqb (length m) (9 * k .width)) || not (eqb (length n) (9 * k .width))) ≡ (misfit 132 m || misfit 132 n)
 both-sized k m n e = rw (sized k m e, sized k n e)

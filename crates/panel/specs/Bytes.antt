@@ -5,8 +5,8 @@ use mathlib.Core.Path.{_≡_}
 use mathlib.Core.Bool.{Bool, cond, _||_, _&&_}
 use mathlib.Core.Option.{Option, none, some}
 use lib.Dec.{ltb, leb, eqb}
-use Rattle.instructions.specs.Refusal.{outOfRange, outsideField}
-use Rattle.instructions.specs.Numbers.{numbers0713}
+use Rattle.paper.specs.Refusal.{outOfRange, outsideField}
+use Rattle.paper.specs.Sheet.{sheet0713}
 use Rattle.instructions.specs.Read.{toldReading, IsRead}
 use Rattle.instructions.specs.Write.{toldWriting, IsWritten}
 use Rattle.instructions.specs.declared.instruction.Instruction.{Instruction}
@@ -15,7 +15,7 @@ use Rattle.instructions.specs.declared.read.Reading.{Reading}
 use Rattle.instructions.specs.declared.read.Reading.the-variants as reading
 use Rattle.instructions.specs.declared.write.Writing.{Writing}
 use Rattle.instructions.specs.declared.write.Writing.the-variants as writing
-use Rattle.instructions.specs.Answers.{Through, If, same}
+use Rattle.paper.specs.Answers.{Through, If, same}
 use Rattle.state.specs.Packed.{flagByte, awaitedOf}
 use Rattle.panel.specs.declared.bytes.Named.{Named}
 use Rattle.panel.specs.declared.bytes.Named.the-variants.{Known, Unknown}
@@ -126,7 +126,7 @@ toldNamed Unknown = none
 
 -- an awaited byte above 2 is refused with 2
 abbrev pub ReadOn : ℕ → ℕ → Reading → Type 0
-ReadOn awaited byte a = If (ltb 2 awaited) (a ≡ reading.Unread outOfRange) (IsRead numbers0713 (awaitedOf awaited) byte a)
+ReadOn awaited byte a = If (ltb 2 awaited) (a ≡ reading.Unread outOfRange) (IsRead sheet0713 (awaitedOf awaited) byte a)
 
 -- a byte read as number and value: refused with 2, 4
 abbrev pub ReadOut : ℕ → ℕ → ℕ × ℕ → ℕ × ℕ → ℕ → Type 0
@@ -134,7 +134,7 @@ ReadOut awaited byte out out′ r = Through (ReadOn awaited byte) toldReading nu
 
 -- what is no instruction is refused with 6
 abbrev pub WrittenIf : Option Instruction → Writing → Type 0
-WrittenIf (some i) a = IsWritten numbers0713 i a
+WrittenIf (some i) a = IsWritten sheet0713 i a
 WrittenIf none a = a ≡ writing.Unwritten outsideField
 
 -- a number and a value written as a byte: refused with 6

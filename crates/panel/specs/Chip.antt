@@ -4,8 +4,8 @@ use Prim.Native.Nat.{ℕ}
 use mathlib.Core.Path.{_≡_}
 use mathlib.Core.Bool.{_||_}
 use mathlib.Core.List.{List}
-use Rattle.instructions.specs.Refusal.{outOfRange}
-use Rattle.instructions.specs.Numbers.{numbers0713}
+use Rattle.paper.specs.Refusal.{outOfRange}
+use Rattle.paper.specs.Sheet.{sheet0713}
 use Rattle.registers.specs.Registers.{PoweredUp}
 use Rattle.registers.specs.declared.Registers.{Registers}
 use Rattle.controller.specs.Cycle.{outcome, Cycled}
@@ -21,14 +21,14 @@ use Rattle.glass.specs.declared.power.PowerState.the-variants.{Normal, Sleep, S
 use Rattle.glass.specs.declared.power.Powered.{Powered}
 use Rattle.glass.specs.declared.power.Powered.the-variants as powered
 use Rattle.planner.specs.Pictures.{misfit}
-use Rattle.instructions.specs.Answers.{Through, If, leftBy, same}
+use Rattle.paper.specs.Answers.{Through, If, leftBy, same}
 use Rattle.state.specs.Packed.{packed, unpacked}
 use Rattle.state.specs.Unfit.{unfit, unfitNumber}
 
 -- power-up always gives a state, that of the registers at power-up
 pub record PowerUpOut (state′ : List ℕ) (r : ℕ) : Type 0 where
   pub registers : Registers
-  pub promised : PoweredUp numbers0713 registers
+  pub promised : PoweredUp sheet0713 registers
   pub left : state′ ≡ packed registers
   pub number : r ≡ 0
 
@@ -38,7 +38,7 @@ pub record PowerUpOut (state′ : List ℕ) (r : ℕ) : Type 0 where
 abbrev pub CycledOn : List ℕ → List ℕ → ℕ → ℕ → Answer → List ℕ → Type 0
 CycledOn state memory kind value a memory′ =
     If (unfit state) ((a ≡ cycle.Refused (unfitNumber (misfit 132 memory))) × (memory′ ≡ memory))
-    (Cycled numbers0713 (unpacked state) memory kind value a memory′)
+    (Cycled sheet0713 (unpacked state) memory kind value a memory′)
 
 -- the state is that of the registers after it where they may change, and a byte that is read is told by `read` 1; refused with 1, 2,
 -- 9, 3, 4 in this order
@@ -56,7 +56,7 @@ pub record CycleOut (state memory : List ℕ) (kind value read byte : ℕ) (stat
 abbrev pub ShownOn : List ℕ → List ℕ → List ℕ → Shown → List ℕ → Type 0
 ShownOn state memory frame a frame′ =
     If (unfit state) ((a ≡ shown.Refused (unfitNumber (misfit 132 memory || misfit 132 frame))) × (frame′ ≡ frame))
-    (IsShown numbers0713 (unpacked state) memory frame a frame′)
+    (IsShown sheet0713 (unpacked state) memory frame a frame′)
 
 -- the frame is drawn, or refused with 1, 2 and left
 pub record FrameOut (state memory frame frame′ : List ℕ) (r : ℕ) : Type 0 where
@@ -72,7 +72,7 @@ powerByte Standby = 2
 
 -- the glass's answer to the registers that the state stands for
 abbrev pub PoweredOn : List ℕ → Powered → Type 0
-PoweredOn state a = If (unfit state) (a ≡ powered.Refused outOfRange) (IsPower numbers0713 (unpacked state) a)
+PoweredOn state a = If (unfit state) (a ≡ powered.Refused outOfRange) (IsPower sheet0713 (unpacked state) a)
 
 -- the power state: refused with 2
 abbrev pub PowerOut : List ℕ → ℕ → ℕ → ℕ → Type 0

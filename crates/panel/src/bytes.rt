@@ -4,10 +4,10 @@ ghost use Rattle.panel.specs.Bytes.{numberOf, valueOf, unnamed, byNumber
 use instructions::instruction::Instruction;
 use instructions::read::Reading;
 use instructions::read::read_instruction;
-use instructions::refusal::OUT_OF_RANGE;
-use instructions::refusal::OUTSIDE_FIELD;
 use instructions::write::Writing;
 use instructions::write::write_instruction;
+use paper::refusal::OUT_OF_RANGE;
+use paper::refusal::OUTSIDE_FIELD;
 use state::packed::awaited_of;
 use state::packed::flag_byte;
 

@@ -9,11 +9,11 @@ use native.Mathlib.Omega.{arith}
 use lib.Dec.{lit≤, ltb, eqb}
 use borrow.Author.Tests.{eqb-true, ltb-false}
 use lib.ListN.{length, take, drop}
-use Rattle.instructions.specs.Refusal.{wrongSize, outsideField, shortOutput}
-use Rattle.instructions.specs.Told.{given}
-use Rattle.instructions.specs.Numbers.{numbers0713}
-use Rattle.instructions.proofs.Sensible.{sensible0713}
-use Rattle.instructions.proofs.Telling.{given-one, not-given}
+use Rattle.paper.specs.Refusal.{wrongSize, outsideField, shortOutput}
+use Rattle.paper.specs.Told.{given}
+use Rattle.paper.specs.Sheet.{sheet0713}
+use Rattle.paper.proofs.Sensible.{sensible0713}
+use Rattle.paper.proofs.Telling.{given-one, not-given}
 use Rattle.registers.specs.Registers.{PoweredUp}
 use Rattle.registers.specs.declared.Registers.{Registers}
 use Rattle.registers.proofs.InRange.{ranged, powered-ranged}
@@ -58,10 +58,10 @@ holding s picture h = record {
 
 -- ---- power-up meets the premises: of a redraw, and of an update if the memory as lent is the recorded picture
 
-pub power-up-pin-high : (r : Registers) (m : List ℕ) → PoweredUp numbers0713 r → length m ≡ 1188 → PinHigh r m
-power-up-pin-high r m p h = record { ranged = ranged numbers0713 r (powered-ranged numbers0713 sensible0713 r p); high = ap (λ s. s .«pin_low») (p .tells); long = h }
+pub power-up-pin-high : (r : Registers) (m : List ℕ) → PoweredUp sheet0713 r → length m ≡ 1188 → PinHigh r m
+power-up-pin-high r m p h = record { ranged = ranged sheet0713 r (powered-ranged sheet0713 sensible0713 r p); high = ap (λ s. s .«pin_low») (p .tells); long = h }
 
-pub power-up-holds : (r : Registers) (m : List ℕ) → PoweredUp numbers0713 r → length m ≡ 1188 → Holding r m m
+pub power-up-holds : (r : Registers) (m : List ℕ) → PoweredUp sheet0713 r → length m ≡ 1188 → Holding r m m
 power-up-holds r m p h =
     record { pin = power-up-pin-high r m p h; quiet = ap (λ s. s .awaited) (p .tells); same = same-refl 132 m }
 

@@ -8,8 +8,8 @@ use mathlib.Core.List.{List}
 use lib.ListN.{length}
 use lib.Dec.{ltb, eqb}
 use borrow.Author.Tests.{ltb-true, lt-ltb, eqb-true, eqb-false, eq-eqb, ne-eqb, not-true, not-false}
-use Rattle.instructions.proofs.Either.{either, or-true, or-left, or-right}
-use Rattle.instructions.proofs.Exactly.{Exactly}
+use Rattle.paper.proofs.Either.{either, or-true, or-left, or-right}
+use Rattle.paper.proofs.Exactly.{Exactly}
 use Rattle.controller.specs.Run.{BusCycle}
 use Rattle.planner.specs.Pictures.{misfit}
 use Rattle.planner.specs.Sent.{tooShort}

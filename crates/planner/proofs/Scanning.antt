@@ -10,8 +10,8 @@ use native.Mathlib.Numerals.{add-one}
 use native.Mathlib.Omega.{arith}
 use Rattle.streams.specs.Picture.{differs}
 use Rattle.streams.specs.Stretch.{Place}
-use Rattle.instructions.specs.Told.{given}
-use Rattle.instructions.proofs.Cases.{split, less}
+use Rattle.paper.specs.Told.{given}
+use Rattle.paper.proofs.Cases.{split, less}
 use Rattle.planner.specs.Pictures.{misfit}
 use Rattle.planner.specs.First.{firstOn, firstFrom, firstDifference}
 

@@ -10,7 +10,7 @@ use Rattle.streams.specs.Stretch.{columnBytes}
 use Rattle.streams.specs.Picture.{shown, differs}
 use Rattle.streams.specs.Update.{wantedBytes}
 use Rattle.streams.specs.Walk.{lead, walk}
-use Rattle.instructions.proofs.Cases.{split}
+use Rattle.paper.proofs.Cases.{split}
 use Rattle.streams.proofs.Walking.{wantedBytes-next, wantedBytes-end, piece-is, walk-same, walk-differs}
 use Rattle.planner.specs.Output.{Room, Wrote, columnPiece, pageGroup}
 use Rattle.planner.proofs.Writing.{room-first, room-second, wrote-both, wrote-none}

@@ -4,8 +4,8 @@ use Prim.Native.Nat.{ℕ}
 use mathlib.Core.Path.{_≡_}
 use mathlib.Core.Bool.{cond, _||_}
 use mathlib.Core.List.{List}
-use Rattle.instructions.specs.Refusal.{wrongSize}
-use Rattle.instructions.specs.Told.{Told, given, refused}
+use Rattle.paper.specs.Refusal.{wrongSize}
+use Rattle.paper.specs.Told.{Told, given, refused}
 use Rattle.streams.specs.Length.{updateLength}
 use Rattle.planner.specs.Pictures.{misfit}
 use Rattle.planner.specs.declared.count.Count.{Count}

@@ -6,7 +6,7 @@ use mathlib.Core.Bool.{false, cond}
 use mathlib.Core.Option.{none}
 use mathlib.Core.List.{List, [], _∷_}
 use lib.ListN.{length, take, replicate}
-use Rattle.instructions.specs.Numbers.{numbers0713}
+use Rattle.paper.specs.Sheet.{sheet0713}
 use Rattle.instructions.specs.declared.instruction.Awaited.the-variants as awaited
 use Rattle.registers.specs.Registers.{outside, withContrast, withIndicator, withIndicatorValue, withAwaited}
 use Rattle.registers.specs.declared.Registers.{Registers}
@@ -24,7 +24,7 @@ use Rattle.streams.specs.Paint.{paint, drawnAll}
 
 -- the reset pin high and all else unknown: registers in range, a memory of nine pages
 pub record PinHigh (r : Registers) (m : List ℕ) : Type 0 where
-  pub ranged : outside numbers0713 r ≡ false
+  pub ranged : outside sheet0713 r ≡ false
   pub high : r .«pin_low» ≡ false
   pub long : length m ≡ 1188
 
@@ -37,11 +37,11 @@ pub record Holding (r : Registers) (m recorded : List ℕ) : Type 0 where
 -- ---- cycles, played on the chip
 
 abbrev pub played : Registers → List ℕ → List BusCycle → State
-played r m cycles = run numbers0713 (state r m) cycles
+played r m cycles = run sheet0713 (state r m) cycles
 
 -- no cycle is refused
 abbrev pub Accepted : Registers → List ℕ → List BusCycle → Type 0
-Accepted r m cycles = numbers numbers0713 (state r m) cycles ≡ replicate (length cycles) 0
+Accepted r m cycles = numbers sheet0713 (state r m) cycles ≡ replicate (length cycles) 0
 
 -- the first n pairs of kinds and bytes of two outputs
 unfoldable pub pairs : ℕ → List ℕ → List ℕ → List BusCycle

@@ -5,8 +5,8 @@ use mathlib.Core.Path.{_≡_}
 use mathlib.Core.Bool.{Bool, cond, _||_}
 use mathlib.Core.Option.{Option, none, some}
 use mathlib.Core.List.{List}
-use Rattle.instructions.specs.Refusal.{wrongSize}
-use Rattle.instructions.specs.Told.{Told, given, refused}
+use Rattle.paper.specs.Refusal.{wrongSize}
+use Rattle.paper.specs.Told.{Told, given, refused}
 use Rattle.streams.specs.Picture.{differs}
 use Rattle.streams.specs.Stretch.{Place}
 use Rattle.planner.specs.Pictures.{misfit}

@@ -6,9 +6,9 @@ use mathlib.Core.Bool.{Bool, cond, _||_}
 use mathlib.Core.List.{List, map}
 use lib.ListN.{length}
 use lib.Dec.{ltb, eqb}
-use Rattle.instructions.specs.Refusal.{wrongSize, shortOutput, outsideField}
-use Rattle.instructions.specs.Told.{given, refused}
-use Rattle.instructions.specs.Over.{over}
+use Rattle.paper.specs.Refusal.{wrongSize, shortOutput, outsideField}
+use Rattle.paper.specs.Told.{given, refused}
+use Rattle.paper.specs.Over.{over}
 use Rattle.controller.specs.Run.{BusCycle}
 use Rattle.streams.specs.Update.{updateStream}
 use Rattle.streams.specs.Redraw.{redrawStream}

@@ -1,11 +1,11 @@
 // The first difference of two pictures.
 use crate::picture::differ;
 use crate::picture::misfit;
-use instructions::numbers::ks0713;
-use instructions::refusal::WRONG_SIZE;
+use paper::refusal::WRONG_SIZE;
+use paper::sheet::ks0713;
 ghost use mathlib.Core.Path.{_≡_};
 ghost use Prim.Native.Nat.{_≤_};
-ghost use Rattle.instructions.specs.Told.{given};
+ghost use Rattle.paper.specs.Told.{given};
 ghost use Rattle.planner.specs.Pictures.{Pictures};
 ghost use Rattle.planner.specs.First.{firstFrom, toldFound, IsFirst};
 

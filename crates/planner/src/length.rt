@@ -2,8 +2,8 @@
 use crate::count::Count;
 use crate::picture::differ;
 use crate::picture::misfit;
-use instructions::numbers::ks0713;
-use instructions::refusal::WRONG_SIZE;
+use paper::refusal::WRONG_SIZE;
+use paper::sheet::ks0713;
 ghost use mathlib.Core.Path.{_≡_};
 ghost use Prim.Native.Nat.{_+_, _-_, _≤_, _<_, min};
 ghost use Rattle.streams.specs.Picture.{differs};

@@ -6,8 +6,8 @@ use mathlib.Core.Bool.{Bool, true, false, _||_}
 use native.Mathlib.Omega.{arith}
 use lib.Dec.{T, ltb, leb}
 use borrow.Author.Tests.{le-ltb, lt-leb, ltb-false, leb-false}
-use Rattle.instructions.specs.Numbers.{Sensible}
-use Rattle.instructions.specs.declared.numbers.Numbers.{Numbers}
+use Rattle.paper.specs.Sheet.{Sensible}
+use Rattle.paper.specs.declared.sheet.Sheet.{Sheet}
 use Rattle.registers.specs.Registers.{outside, savedOf, Ranged, PoweredUp}
 use Rattle.registers.specs.declared.Registers.{Registers}
 
@@ -24,7 +24,7 @@ none-of false false false false false true g h p = absurd (subst T p tt)
 none-of false false false false false false true h p = absurd (subst T p tt)
 none-of false false false false false false false true p = absurd (subst T p tt)
 
-pub ranged : (k : Numbers) (r : Registers) → Ranged k r → outside k r ≡ false
+pub ranged : (k : Sheet) (r : Registers) → Ranged k r → outside k r ≡ false
 unfolding outside
 ranged k r g =
     simp (
@@ -38,7 +38,7 @@ ranged k r g =
       lt-leb (k .highs * 16) (savedOf (r .«modify_read»)) (omega arith),
     )
 
-pub ranges : (k : Numbers) (r : Registers) → outside k r ≡ false → Ranged k r
+pub ranges : (k : Sheet) (r : Registers) → outside k r ≡ false → Ranged k r
 unfolding outside
 ranges k r e =
     let f = none-of (ltb 15 (r .page)) (leb (k .highs * 16) (r .column .0)) (ltb 63 (r .«start_line»)) (ltb 63 (r .contrast)) (ltb 7 (r .resistor)) (ltb 7 (r .power)) (ltb 3 (r .«indicator_value»)) (leb (k .highs * 16) (savedOf (r .«modify_read»))) e in
@@ -54,9 +54,9 @@ ranges k r e =
     }
 
 -- two admitted answers of power_up are equal
-pub powered-one : {k : Numbers} {r s : Registers} → PoweredUp k r → PoweredUp k s → r ≡ s
+pub powered-one : {k : Sheet} {r s : Registers} → PoweredUp k r → PoweredUp k s → r ≡ s
 powered-one f g = f .tells ∙ sym (g .tells)
 
 -- power-up's registers are in range
-pub powered-ranged : (k : Numbers) → Sensible k → (r : Registers) → PoweredUp k r → Ranged k r
+pub powered-ranged : (k : Sheet) → Sensible k → (r : Registers) → PoweredUp k r → Ranged k r
 powered-ranged k g r p = rw (p .tells) (omega (arith, g .wide, g .first))

@@ -4,7 +4,7 @@ use Prim.Native.Nat.{ℕ, _*_, _<_}
 use mathlib.Core.Path.{_≡_}
 use mathlib.Core.Bool.{Bool, true, false, _||_}
 use lib.Dec.{ltb, leb}
-use Rattle.instructions.specs.declared.numbers.Numbers.{Numbers}
+use Rattle.paper.specs.declared.sheet.Sheet.{Sheet}
 use Rattle.instructions.specs.declared.instruction.Awaited.{Awaited}
 use Rattle.instructions.specs.declared.instruction.Awaited.the-variants.{Nothing}
 use Rattle.registers.specs.declared.Column.{Column}
@@ -78,11 +78,11 @@ withAwaited r v = regs (r .page) (r .column) (r .«start_line») (r .contrast) (
 -- ---- start values
 
 -- 0 and off, except contrast 32 and the resistor as the chip has it; with the holder and the pin as given
-abbrev pub start : Numbers → ℕ → Bool → Registers
+abbrev pub start : Sheet → ℕ → Bool → Registers
 start k holder low = regs 0 (column 0) 0 32 (k .resistor) 0 false false false false false false false 0 holder low Off Nothing
 
 -- power-up: pin low then high, holder 0
-pub record PoweredUp (k : Numbers) (r : Registers) : Type 0 where
+pub record PoweredUp (k : Sheet) (r : Registers) : Type 0 where
   pub tells : r ≡ withPinLow (start k 0 true) false
 
 -- ---- ranges
@@ -94,13 +94,13 @@ savedOf (On c) = c .0
 
 -- a register is outside its range: page 0..15; column, saved or not, what the counter holds; start line and contrast 0..63;
 -- resistor and power 0..7; indicator value 0..3. A register of 0 or 1 and the holder never are
-unfoldable pub outside : Numbers → Registers → Bool
+unfoldable pub outside : Sheet → Registers → Bool
 outside k r =
     ltb 15 (r .page) || leb (k .highs * 16) (r .column .0) || ltb 63 (r .«start_line») || ltb 63 (r .contrast)
     || ltb 7 (r .resistor) || ltb 7 (r .power) || ltb 3 (r .«indicator_value») || leb (k .highs * 16) (savedOf (r .«modify_read»))
 
 -- the same, range by range
-pub record Ranged (k : Numbers) (r : Registers) : Type 0 where
+pub record Ranged (k : Sheet) (r : Registers) : Type 0 where
   pub page : r .page < 16
   pub column : r .column .0 < k .highs * 16
   pub start-line : r .«start_line» < 64

@@ -2,7 +2,7 @@
 ghost use mathlib.Core.Path.{_≡_};
 ghost use Rattle.registers.specs.Registers.{savedOf, outside};
 use instructions::instruction::Awaited;
-use instructions::numbers::Numbers;
+use paper::sheet::Sheet;
 
 pub mod setters;
 pub mod start;
@@ -48,7 +48,7 @@ fn saved_column(mode: ModifyRead) -> u8
 }
 
 // Whether a register is outside its range. A bool and the holder never are.
-pub fn outside_range(chip: Numbers, registers: Registers) -> bool
+pub fn outside_range(chip: Sheet, registers: Registers) -> bool
     ensures { λ b. ⌜ b ≡ outside chip registers ⌝ }
 {
     let columns = chip.highs as usize * 16;

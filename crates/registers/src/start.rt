@@ -1,16 +1,16 @@
 // The start values, and the registers at power-up.
 ghost use mathlib.Core.Path.{_≡_};
-ghost use Rattle.instructions.specs.Numbers.{numbers0713};
+ghost use Rattle.paper.specs.Sheet.{sheet0713};
 ghost use Rattle.registers.specs.Registers.{start, PoweredUp};
 use crate::Column;
 use crate::ModifyRead;
 use crate::Registers;
 use instructions::instruction::Awaited;
-use instructions::numbers::Numbers;
-use instructions::numbers::ks0713;
+use paper::sheet::Sheet;
+use paper::sheet::ks0713;
 
 // Every register at its start value, with the holder and the pin as given.
-pub fn started(chip: Numbers, holder: u8, low: bool) -> Registers
+pub fn started(chip: Sheet, holder: u8, low: bool) -> Registers
     ensures { λ r. ⌜ r ≡ start chip holder low ⌝ }
 {
     Registers {
@@ -37,7 +37,7 @@ pub fn started(chip: Numbers, holder: u8, low: bool) -> Registers
 
 // The KS0713's registers at power-up: pin low then high, holder 0.
 pub fn power_up() -> Registers
-    ensures { λ r. ⌜ PoweredUp numbers0713 r ⌝ }
+    ensures { λ r. ⌜ PoweredUp sheet0713 r ⌝ }
 {
     started(ks0713(), 0, false)
 }

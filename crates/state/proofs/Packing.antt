@@ -14,10 +14,10 @@ use Rattle.instructions.specs.declared.instruction.Awaited.the-variants as awai
 use Rattle.registers.specs.declared.ModifyRead.{ModifyRead}
 use Rattle.registers.specs.declared.ModifyRead.the-variants.{Off, On}
 use Rattle.registers.specs.declared.Registers.{Registers}
-use Rattle.instructions.specs.Listed.{listed}
-use Rattle.instructions.proofs.Listed.{whole}
-use Rattle.instructions.proofs.Cases.{less}
-use Rattle.instructions.proofs.Either.{or-left, or-right}
+use Rattle.paper.specs.Listed.{listed}
+use Rattle.paper.proofs.Listed.{whole}
+use Rattle.paper.proofs.Cases.{less}
+use Rattle.paper.proofs.Either.{or-left, or-right}
 use Rattle.state.specs.Packed.{flagByte, modifyByte, savedByte, modifyOf, awaitedByte, awaitedOf, packed, unpacked}
 use Rattle.state.specs.Unfit.{above, oddFlag, spareUsed, unfit}
 

@@ -5,7 +5,7 @@ use mathlib.Core.Bool.{Bool, false, cond, _&&_, _||_}
 use mathlib.Core.List.{List}
 use lib.ListN.{getD}
 use lib.Dec.{ltb, eqb}
-use Rattle.instructions.specs.Refusal.{wrongSize, outOfRange}
+use Rattle.paper.specs.Refusal.{wrongSize, outOfRange}
 
 -- one of the n bytes from i on is above `most`
 abbrev pub above : ℕ → List ℕ → ℕ → ℕ → Bool

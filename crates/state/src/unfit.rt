@@ -13,8 +13,8 @@ use crate::packed::REVERSE;
 use crate::packed::SAVED_COLUMN;
 use crate::packed::SHL;
 use crate::packed::State;
-use instructions::refusal::OUT_OF_RANGE;
-use instructions::refusal::WRONG_SIZE;
+use paper::refusal::OUT_OF_RANGE;
+use paper::refusal::WRONG_SIZE;
 
 // Whether a byte that is to be 0 or 1 is neither.
 fn odd_flag(state: &State) -> bool

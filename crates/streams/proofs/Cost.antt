@@ -13,7 +13,7 @@ use borrow.Author.Tests.{eqb-true, eqb-false}
 use Rattle.streams.specs.Update.{Run, joins, join, joinIf, runs}
 use Rattle.streams.specs.Length.{differing, gaps, gapCost, pageLength}
 use Rattle.streams.specs.Tally.{toPay}
-use Rattle.instructions.proofs.Cases.{split, less}
+use Rattle.paper.proofs.Cases.{split, less}
 use Rattle.streams.proofs.Sums.{sum, sum-le, sum-add, sum-zero}
 use Rattle.streams.proofs.Runs.{joins-near, joins-far, Fits, runs-fit, inRun, in-before, in-inside, in-after, in-le, hits}
 

@@ -18,7 +18,7 @@ use Rattle.streams.specs.Stretch.{Stretch, OfKind}
 use Rattle.streams.specs.Update.{Run, runs, wantedBytes, stretchOf, pageWork, workFrom, update}
 use Rattle.streams.specs.Redraw.{wholePage, wholePages, redraw}
 use Rattle.streams.specs.Paint.{storeAll, paint}
-use Rattle.instructions.proofs.Cases.{split, less}
+use Rattle.paper.proofs.Cases.{split, less}
 use Rattle.streams.proofs.Pictures.{shown-is, shown-again, same-at, same-by, differs-false}
 use Rattle.streams.proofs.Runs.{Fits, runs-fit, inRun, in-before, in-inside, in-after, hits, runs-cover}
 

@@ -18,7 +18,7 @@ use Rattle.controller.specs.Chip.{pageCycle, highCycle, lowCycle, dataCycle, Vi
 use Rattle.streams.specs.Stretch.{Stretch, Place, endOf, OfKind, onIt, columnBytes, address, emitBy, emit}
 use Rattle.streams.specs.Paint.{storeAll, paint, lastOf, drawn, drawnAll}
 use Rattle.streams.specs.Demand.{Leaves}
-use Rattle.instructions.proofs.Cases.{split}
+use Rattle.paper.proofs.Cases.{split}
 use Rattle.streams.proofs.Emitting.{address-on, address-off}
 
 module _ {W : ℕ} (C : Chip W) where

@@ -8,7 +8,7 @@ use mathlib.Core.List.{List, [], _∷_}
 use native.Mathlib.Omega.{arith}
 use borrow.Author.Tests.{leb-true, leb-false, le-leb, lt-leb}
 use Rattle.streams.specs.Update.{Run, joins, join, joinIf, runs}
-use Rattle.instructions.proofs.Cases.{split, less}
+use Rattle.paper.proofs.Cases.{split, less}
 
 -- ---- at most 2 equal columns between
 

@@ -20,7 +20,7 @@ use Rattle.streams.specs.Stretch.{Stretch, OfKind, address, emit}
 use Rattle.streams.specs.Update.{wantedBytes, update, updateStream}
 use Rattle.streams.specs.Length.{updateLength}
 use Rattle.streams.specs.Demand.{Recorded, Leaves, Updated, Cut}
-use Rattle.instructions.proofs.Cases.{split}
+use Rattle.paper.proofs.Cases.{split}
 use Rattle.streams.proofs.Pictures.{shown-is, shown-again, recorded-between}
 use Rattle.streams.proofs.Painting.{Wanted, update-kind, update-wanted, update-paints, paint-length}
 use Rattle.streams.proofs.Least.{least}

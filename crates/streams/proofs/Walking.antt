@@ -18,7 +18,7 @@ use Rattle.streams.specs.Stretch.{Place, endOf, columnBytes, emitBy, emi
 use Rattle.streams.specs.Update.{Run, joins, join, joinIf, runs, wantedBytes, stretchOf, pageWork, workFrom, update, updateStream}
 use Rattle.streams.specs.Redraw.{wholePage, wholePages, redraw, opening, redrawStream}
 use Rattle.streams.specs.Walk.{lead, piece, pieceIf, walk, walkPages}
-use Rattle.instructions.proofs.Cases.{split}
+use Rattle.paper.proofs.Cases.{split}
 use Rattle.streams.proofs.Runs.{joins-near, joins-far, joins-yes, joins-no, Fits, runs-fit}
 use Rattle.streams.proofs.Emitting.{address-on, address-off, on-same, Under, under-off, emit-append, emit-place}
 use Rattle.streams.proofs.Painting.{wantedBytes-length}

@@ -7,7 +7,7 @@ use mathlib.Core.Bool.{Bool, true, false}
 use mathlib.Core.Option.{none}
 use mathlib.Core.List.{List, [], _∷_, _++_, map}
 use lib.ListN.{getD}
-use Rattle.instructions.specs.Listed.{listed}
+use Rattle.paper.specs.Listed.{listed}
 use Rattle.controller.specs.Run.{BusCycle}
 use Rattle.streams.specs.Stretch.{emit}
 use Rattle.streams.specs.Update.{Run, pageWork}

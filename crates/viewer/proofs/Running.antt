@@ -6,8 +6,8 @@ use mathlib.Core.Logic.{⊎-elim}
 use mathlib.Core.List.{List}
 use native.Mathlib.Omega.{arith}
 use lib.ListN.{length}
-use Rattle.instructions.specs.Numbers.{numbers0713}
-use Rattle.instructions.proofs.Sensible.{sensible0713}
+use Rattle.paper.specs.Sheet.{sheet0713}
+use Rattle.paper.proofs.Sensible.{sensible0713}
 use Rattle.registers.specs.Registers.{PoweredUp}
 use Rattle.registers.specs.declared.Registers.{Registers}
 use Rattle.registers.proofs.InRange.{ranged, powered-ranged}
@@ -20,13 +20,13 @@ use Rattle.bus.proofs.Playing.{cycles-count}
 use Rattle.bus.proofs.Promised.{ShortOutputs, run-is, run-always, stay-ranged}
 use Rattle.viewer.specs.Played.{FromPowerUp}
 
-module _ {r : Registers} {m cycles left : List ℕ} {o x : Outputs} {a : Ran} (up : PoweredUp numbers0713 r) (f : IsRun numbers0713 r m cycles o a left x) where
+module _ {r : Registers} {m cycles left : List ℕ} {o x : Outputs} {a : Ran} (up : PoweredUp sheet0713 r) (f : IsRun sheet0713 r m cycles o a left x) where
   pub run-given : {q : Registers} → a ≡ After q → FromPowerUp cycles m q left
   run-given {q} e =
-      let g = subst (λ (b : Ran). IsRun numbers0713 r m cycles o b left x) e f in
+      let g = subst (λ (b : Ran). IsRun sheet0713 r m cycles o b left x) e f in
       record {
-        after = run-is g ∙ ap (λ (y : Registers). run numbers0713 (state y m) (cyclesOf cycles)) (up .tells);
-        ranged = stay-ranged numbers0713 sensible0713 (powered-ranged numbers0713 sensible0713 r up) g;
+        after = run-is g ∙ ap (λ (y : Registers). run sheet0713 (state y m) (cyclesOf cycles)) (up .tells);
+        ranged = stay-ranged sheet0713 sensible0713 (powered-ranged sheet0713 sensible0713 r up) g;
       }
 
   room-for-all : length cycles ≤ 32000 → 16000 ≡ length (o .numbers) → 16000 ≡ length (o .reads) → 16000 ≡ length (o .bytes)
@@ -36,6 +36,6 @@ module _ {r : Registers} {m cycles left : List ℕ} {o x : Outputs} {a : Ran} (u
   pub run-never : {n : ℕ} → length m ≡ 1188 → length cycles ≤ 32000 → 16000 ≡ length (o .numbers) → 16000 ≡ length (o .reads) → 16000 ≡ length (o .bytes)
       → a ≡ Refused n → ⊥
   run-never {n} fit h nr dr br e =
-      let g : Refused n ≡ After _ = sym e ∙ run-always f fit (ranged numbers0713 r (powered-ranged numbers0713 sensible0713 r up)) (room-for-all h nr dr br) in
+      let g : Refused n ≡ After _ = sym e ∙ run-always f fit (ranged sheet0713 r (powered-ranged sheet0713 sensible0713 r up)) (room-for-all h nr dr br) in
       let z : _≡_ {A = ℕ} 0 1 = cc in
       omega arith

@@ -3,7 +3,7 @@
 use Prim.Native.Nat.{ℕ, zero, suc}
 use mathlib.Core.Path.{_≡_}
 use mathlib.Core.List.{List, [], _∷_}
-use Rattle.instructions.specs.Numbers.{numbers0713}
+use Rattle.paper.specs.Sheet.{sheet0713}
 use Rattle.registers.specs.Registers.{Ranged}
 use Rattle.registers.specs.declared.Registers.{Registers}
 use Rattle.controller.specs.Run.{BusCycle}
@@ -19,10 +19,10 @@ cyclesFrom file i (suc n) = cycleAt file i ∷ cyclesFrom file (suc i) n
 
 -- the registers and the memory after the cycles of a list from power-up with the memory m; the registers are in their ranges
 pub record FromPowerUp (cycles m : List ℕ) (r : Registers) (left : List ℕ) : Type 0 where
-  pub after : state r left ≡ run numbers0713 (poweredUp numbers0713 m) (cyclesOf cycles)
-  pub ranged : Ranged numbers0713 r
+  pub after : state r left ≡ run sheet0713 (poweredUp sheet0713 m) (cyclesOf cycles)
+  pub ranged : Ranged sheet0713 r
 
 -- the same after a job's cycles
 pub record Played (file : List ℕ) (j : Job) (m : List ℕ) (r : Registers) (left : List ℕ) : Type 0 where
-  pub after : state r left ≡ run numbers0713 (poweredUp numbers0713 m) (cyclesFrom file 0 (j .cycles))
-  pub ranged : Ranged numbers0713 r
+  pub after : state r left ≡ run sheet0713 (poweredUp sheet0713 m) (cyclesFrom file 0 (j .cycles))
+  pub ranged : Ranged sheet0713 r

@@ -5,9 +5,9 @@ use registers::Registers;
 ghost use mathlib.Core.Path.{_≡_};
 ghost use Prim.Native.Nat.{_+_, _≤_, _<_};
 ghost use lib.ListN.{length};
-ghost use Rattle.instructions.specs.Numbers.{numbers0713};
+ghost use Rattle.paper.specs.Sheet.{sheet0713};
 ghost use Rattle.registers.specs.Registers.{Ranged};
-ghost use Rattle.instructions.specs.Listed.{listed};
+ghost use Rattle.paper.specs.Listed.{listed};
 ghost use Rattle.glass.specs.Frame.{frameOf};
 ghost use Rattle.viewer.specs.Drawn.{glyph};
 
@@ -20,8 +20,8 @@ fn room() -> [u8; 1188]
 
 // The lit frame.
 fn lit_frame(registers: Registers, memory: &[u8]) -> [u8; 1188]
-    requires { ⌜ Ranged numbers0713 registers × (length (now memory) ≡ 1188) ⌝ }
-    ensures { λ r. ⌜ (1188 ≡ length r) × (r ≡ frameOf numbers0713 registers (now (memory .entry))) ⌝ }
+    requires { ⌜ Ranged sheet0713 registers × (length (now memory) ≡ 1188) ⌝ }
+    ensures { λ r. ⌜ (1188 ≡ length r) × (r ≡ frameOf sheet0713 registers (now (memory .entry))) ⌝ }
 {
     let mut out = room();
     frame(registers, memory, &mut out);
@@ -104,7 +104,7 @@ fn all_rows(frame: &[u8], pbm: bool) -> bool
 
 // Draws the glass, and answers whether it could be written.
 pub(crate) fn glass(registers: Registers, memory: &[u8]) -> bool
-    requires { ⌜ Ranged numbers0713 registers × (length (now memory) ≡ 1188) ⌝ }
+    requires { ⌜ Ranged sheet0713 registers × (length (now memory) ≡ 1188) ⌝ }
 {
     let frame = lit_frame(registers, memory);
     all_rows(&frame, false)
@@ -112,7 +112,7 @@ pub(crate) fn glass(registers: Registers, memory: &[u8]) -> bool
 
 // Writes the glass as a plain PBM picture, and answers whether it could be written.
 pub(crate) fn pbm(registers: Registers, memory: &[u8]) -> bool
-    requires { ⌜ Ranged numbers0713 registers × (length (now memory) ≡ 1188) ⌝ }
+    requires { ⌜ Ranged sheet0713 registers × (length (now memory) ≡ 1188) ⌝ }
 {
     let frame = lit_frame(registers, memory);
     io::write_all(libc::STDOUT_FILENO, b"P1\n132 65\n") & all_rows(&frame, true)

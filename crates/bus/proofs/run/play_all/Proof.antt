@@ -5,7 +5,7 @@ use mathlib.Core.Path.{_≡_, refl, _∙_}
 use native.Mathlib.Omega.{arith}
 use borrow.Author.Needs.{needs}
 use lib.ListN.{length}
-use Rattle.instructions.specs.Numbers.{numbers0713}
+use Rattle.paper.specs.Sheet.{sheet0713}
 use Rattle.controller.specs.State.{state}
 use Rattle.bus.specs.Run.{outputs}
 use Rattle.bus.proofs.Playing.{Left, left-next, left-none}
@@ -15,7 +15,7 @@ use Rattle.bus.proofs.run.play_all.Tie as tie
 abbrev Inv-loop : tie.InvT-loop
 Inv-loop memory₀ cycles numbers₀ reads₀ bytes₀ after₀ i₀ memory numbers reads bytes after i =
     (length memory ≡ length memory₀) × (length numbers ≡ length numbers₀) × (length reads ≡ length reads₀) × (length bytes ≡ length bytes₀)
-    × Left numbers0713 (state after memory) (outputs numbers reads bytes) i cycles (state after₀ memory₀) (outputs numbers₀ reads₀ bytes₀)
+    × Left sheet0713 (state after memory) (outputs numbers reads bytes) i cycles (state after₀ memory₀) (outputs numbers₀ reads₀ bytes₀)
 
 abbrev μ-loop : tie.MeasureT-loop
 μ-loop memory₀ cycles numbers₀ reads₀ bytes₀ after₀ i₀ memory numbers reads bytes after i = length cycles / 2 - i

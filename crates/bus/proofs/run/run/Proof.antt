@@ -3,8 +3,8 @@
 use mathlib.Core.Path.{sym, subst}
 use borrow.Author.Needs.{needs}
 use denote.Ref.{now}
-use Rattle.instructions.specs.Numbers.{Sensible, numbers0713}
-use Rattle.instructions.proofs.Sensible.{sensible0713}
+use Rattle.paper.specs.Sheet.{Sensible, sheet0713}
+use Rattle.paper.proofs.Sensible.{sensible0713}
 use Rattle.bus.specs.Run.{outputs}
 use Rattle.bus.proofs.Running.{has-room, run-refused, run-given}
 use Rattle.bus.proofs.run.run.Statement.{statement}
@@ -13,19 +13,19 @@ use Rattle.bus.proofs.run.run.Tie as tie
 refused : tie.Need-returns
 refused c =
     let a = c .before .before .before .before .before .before .before .before .args in
-    run-refused numbers0713 (a .registers) (now (a .memory)) (now (a .cycles)) (outputs (now (a .numbers)) (now (a .reads)) (now (a .bytes))) (c .before .before .ks0713 .ensures) (c .before .refusal-of .ensures) (c .if1 .taken)
+    run-refused sheet0713 (a .registers) (now (a .memory)) (now (a .cycles)) (outputs (now (a .numbers)) (now (a .reads)) (now (a .bytes))) (c .before .before .ks0713 .ensures) (c .before .refusal-of .ensures) (c .if1 .taken)
 
 room : tie.Need-play-all-requires
 room c κs =
     let s = c .before .before .before .before in
     let a = c .before .before .before .before .before .before .before .before .before .before .before .before .args in
-    has-room numbers0713 (a .registers) (now (a .memory)) (now (a .cycles)) (outputs (now (a .numbers)) (now (a .reads)) (now (a .bytes))) (s .before .before .ks0713 .ensures) (s .before .refusal-of .ensures) (s .if1 .left)
+    has-room sheet0713 (a .registers) (now (a .memory)) (now (a .cycles)) (outputs (now (a .numbers)) (now (a .reads)) (now (a .bytes))) (s .before .before .ks0713 .ensures) (s .before .refusal-of .ensures) (s .if1 .left)
 
 played : tie.Need-returns-2
 played c =
     let s = c .before .before .before .before .before .before .before .before .before .before .before .before .before in
     let a = c .before .before .before .before .before .before .before .before .before .before .before .before .before .before .before .before .before .before .before .before .before .args in
-    run-given numbers0713 (a .registers) (now (a .memory)) (now (a .cycles)) (outputs (now (a .numbers)) (now (a .reads)) (now (a .bytes))) (s .before .before .ks0713 .ensures) (s .before .refusal-of .ensures) (s .if1 .left) (c .before .before .before .before .before .before .before .before .play-all .ensures)
+    run-given sheet0713 (a .registers) (now (a .memory)) (now (a .cycles)) (outputs (now (a .numbers)) (now (a .reads)) (now (a .bytes))) (s .before .before .ks0713 .ensures) (s .before .refusal-of .ensures) (s .if1 .left) (c .before .before .before .before .before .before .before .before .play-all .ensures)
 
 pub run-spec : {M : Type 1} → statement M
 run-spec =

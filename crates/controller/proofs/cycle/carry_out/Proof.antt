@@ -3,7 +3,7 @@
 use native.Mathlib.Omega.{arith}
 use borrow.Author.Needs.{needs}
 use Rattle.controller.specs.Cycle.{carried, kept}
-use Rattle.instructions.proofs.Tests.{tests}
+use Rattle.paper.proofs.Tests.{tests}
 use Rattle.controller.proofs.cycle.carry_out.Statement.{statement}
 use Rattle.controller.proofs.cycle.carry_out.Tie as tie
 

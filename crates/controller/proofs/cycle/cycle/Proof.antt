@@ -1,9 +1,9 @@
--- `controller::cycle::cycle` meets its contract: one cycle, with the KS0713's numbers.
+-- `controller::cycle::cycle` meets its contract: one cycle, with the KS0713's sheet.
 -- Assumes nothing.
 use mathlib.Core.Path.{sym, subst}
 use borrow.Author.Needs.{needs}
-use Rattle.instructions.specs.Numbers.{Sensible}
-use Rattle.instructions.proofs.Sensible.{sensible0713}
+use Rattle.paper.specs.Sheet.{Sensible}
+use Rattle.paper.proofs.Sensible.{sensible0713}
 use Rattle.controller.proofs.cycle.cycle.Statement.{statement}
 use Rattle.controller.proofs.cycle.cycle.Tie as tie
 

@@ -2,7 +2,7 @@
 -- Assumes nothing.
 use borrow.Author.Needs.{needs}
 use Rattle.controller.specs.Memory.{advanced}
-use Rattle.instructions.proofs.Tests.{tests}
+use Rattle.paper.proofs.Tests.{tests}
 use Rattle.controller.proofs.memory.advance.Statement.{statement}
 use Rattle.controller.proofs.memory.advance.Tie as tie
 

@@ -2,7 +2,7 @@
 -- Assumes nothing.
 use borrow.Author.Needs.{needs}
 use borrow.Author.Tests.{lt-ltb}
-use Rattle.instructions.proofs.Tests.{tests}
+use Rattle.paper.proofs.Tests.{tests}
 use Rattle.glass.specs.Dot.{litOf}
 use Rattle.glass.proofs.dot.lit.Statement.{statement}
 use Rattle.glass.proofs.dot.lit.Tie as tie

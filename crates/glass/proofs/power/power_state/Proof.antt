@@ -1,4 +1,4 @@
--- `glass::power::power_state` meets its contract: the power state, with the KS0713's numbers.
+-- `glass::power::power_state` meets its contract: the power state, with the KS0713's sheet.
 -- Assumes nothing.
 use borrow.Author.Needs.{needs}
 use Rattle.glass.proofs.power.power_state.Statement.{statement}

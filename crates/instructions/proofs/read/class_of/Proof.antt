@@ -5,7 +5,7 @@ use mathlib.Core.Path.{refl}
 use mathlib.Core.Bool.{false, _||_}
 use native.Mathlib.Omega.{arith}
 use lib.Dec.{eqb}
-use Rattle.instructions.proofs.Tests.{tests}
+use Rattle.paper.proofs.Tests.{tests}
 use Rattle.instructions.specs.Read.{classOf}
 use Rattle.instructions.proofs.Classes.{of-class}
 use Rattle.instructions.proofs.read.class_of.Statement.{statement}

@@ -2,7 +2,7 @@
 -- Assumes nothing.
 use borrow.Author.Needs.{needs}
 use Rattle.instructions.specs.Read.{readBy}
-use Rattle.instructions.proofs.Tests.{tests}
+use Rattle.paper.proofs.Tests.{tests}
 use Rattle.instructions.proofs.read.read_by.Statement.{statement}
 use Rattle.instructions.proofs.read.read_by.Tie as tie
 

@@ -1,4 +1,4 @@
--- `instructions::read::read_instruction` meets its contract: the reader, with the KS0713's numbers.
+-- `instructions::read::read_instruction` meets its contract: the reader, with the KS0713's sheet.
 -- Assumes nothing.
 use borrow.Author.Needs.{needs}
 use Rattle.instructions.proofs.read.read_instruction.Statement.{statement}

@@ -2,7 +2,7 @@
 -- Assumes nothing.
 use borrow.Author.Needs.{needs}
 use Rattle.instructions.specs.Write.{fieldOf}
-use Rattle.instructions.proofs.Tests.{tests}
+use Rattle.paper.proofs.Tests.{tests}
 use Rattle.instructions.proofs.write.field.Statement.{statement}
 use Rattle.instructions.proofs.write.field.Tie as tie
 

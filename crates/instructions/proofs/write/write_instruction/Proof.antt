@@ -1,9 +1,9 @@
--- `instructions::write::write_instruction` meets its contract: the writer, with the KS0713's numbers.
+-- `instructions::write::write_instruction` meets its contract: the writer, with the KS0713's sheet.
 -- Assumes nothing.
 use mathlib.Core.Path.{sym, subst}
 use borrow.Author.Needs.{needs}
-use Rattle.instructions.specs.Numbers.{Sensible}
-use Rattle.instructions.proofs.Sensible.{sensible0713}
+use Rattle.paper.specs.Sheet.{Sensible}
+use Rattle.paper.proofs.Sensible.{sensible0713}
 use Rattle.instructions.proofs.write.write_instruction.Statement.{statement}
 use Rattle.instructions.proofs.write.write_instruction.Tie as tie
 

@@ -5,18 +5,18 @@ use mathlib.Core.Path.{_≡_, refl, _∙_}
 use native.Mathlib.Omega.{arith}
 use borrow.Author.Needs.{needs}
 use lib.ListN.{length}
-use Rattle.instructions.specs.Numbers.{numbers0713}
+use Rattle.paper.specs.Sheet.{sheet0713}
 use Rattle.controller.specs.State.{state, poweredUp}
 use Rattle.jobs.specs.Play.{textFrom}
-use Rattle.jobs.specs.Output.{Remains}
+use Rattle.jobs.specs.Output.{Remains, lineMost}
 use Rattle.jobs.proofs.Playing.{remains-start, remains-turn, remains-ending}
 use Rattle.jobs.proofs.play.play_cycles.Statement.{statement}
 use Rattle.jobs.proofs.play.play_cycles.Tie as tie
 
 abbrev Inv-loop : tie.InvT-loop
 Inv-loop file job memory₀ out₀ after₀ i₀ memory out after i =
-    (i ≤ job .cycles) × (after .at ≤ 44 * i)
-    × Remains (textFrom file job (poweredUp numbers0713 memory₀) 0 (job .cycles)) out₀ out (after .at) (textFrom file job (state (after .registers) memory) i (job .cycles - i))
+    (i ≤ job .cycles) × (after .at ≤ lineMost * i)
+    × Remains (textFrom file job (poweredUp sheet0713 memory₀) 0 (job .cycles)) out₀ out (after .at) (textFrom file job (state (after .registers) memory) i (job .cycles - i))
     × (length memory ≡ length memory₀) × (length out ≡ length out₀)
 
 abbrev μ-loop : tie.MeasureT-loop

@@ -1,7 +1,7 @@
 -- `jobs::text::digit` meets its contract: below 10, and from 10 on.
 -- Assumes nothing.
 use borrow.Author.Needs.{needs}
-use Rattle.instructions.proofs.Tests.{tests}
+use Rattle.paper.proofs.Tests.{tests}
 use Rattle.jobs.specs.Text.{digit}
 use Rattle.jobs.proofs.text.digit.Statement.{statement}
 use Rattle.jobs.proofs.text.digit.Tie as tie

@@ -1,6 +1,6 @@
 -- `panel::bytes::by_number` meets its contract: each arm of the match is a row of the definition.
 -- Assumes nothing.
-use Rattle.instructions.proofs.Tests.{tests}
+use Rattle.paper.proofs.Tests.{tests}
 use Rattle.panel.specs.Bytes.{byNumber}
 use Rattle.panel.proofs.bytes.by_number.Statement.{statement}
 use Rattle.panel.proofs.bytes.by_number.Tie as tie

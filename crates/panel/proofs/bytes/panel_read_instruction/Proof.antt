@@ -3,7 +3,7 @@
 use mathlib.Core.Path.{ap}
 use borrow.Author.Needs.{needs}
 use Rattle.instructions.specs.Read.{toldReading}
-use Rattle.instructions.proofs.Answering.{gives, refuses}
+use Rattle.paper.proofs.Answering.{gives, refuses}
 use Rattle.panel.proofs.bytes.panel_read_instruction.Statement.{statement}
 use Rattle.panel.proofs.bytes.panel_read_instruction.Tie as tie
 

@@ -3,7 +3,7 @@
 use mathlib.Core.Path.{ap}
 use borrow.Author.Needs.{needs}
 use Rattle.glass.specs.Power.{toldPower}
-use Rattle.instructions.proofs.Answering.{gives, refuses}
+use Rattle.paper.proofs.Answering.{gives, refuses}
 use Rattle.panel.proofs.chip.panel_power_state.Statement.{statement}
 use Rattle.panel.proofs.chip.panel_power_state.Tie as tie
 

@@ -3,7 +3,7 @@
 use mathlib.Core.Path.{ap}
 use borrow.Author.Needs.{needs}
 use Rattle.glass.specs.Voltage.{toldVoltage}
-use Rattle.instructions.proofs.Answering.{gives, refuses}
+use Rattle.paper.proofs.Answering.{gives, refuses}
 use Rattle.panel.proofs.chip.panel_v0.Statement.{statement}
 use Rattle.panel.proofs.chip.panel_v0.Tie as tie
 

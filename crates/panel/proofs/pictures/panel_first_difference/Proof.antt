@@ -4,7 +4,7 @@ use mathlib.Core.Path.{ap}
 use mathlib.Core.Option.{none, some}
 use borrow.Author.Needs.{needs}
 use Rattle.planner.specs.First.{toldFound}
-use Rattle.instructions.proofs.Answering.{gives, refuses}
+use Rattle.paper.proofs.Answering.{gives, refuses}
 use Rattle.panel.proofs.pictures.panel_first_difference.Statement.{statement}
 use Rattle.panel.proofs.pictures.panel_first_difference.Tie as tie
 

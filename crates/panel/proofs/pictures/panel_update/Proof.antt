@@ -3,7 +3,7 @@
 use mathlib.Core.Path.{ap}
 use borrow.Author.Needs.{needs}
 use Rattle.planner.specs.Count.{toldCount}
-use Rattle.instructions.proofs.Answering.{gives, refuses}
+use Rattle.paper.proofs.Answering.{gives, refuses}
 use Rattle.panel.proofs.pictures.panel_update.Statement.{statement}
 use Rattle.panel.proofs.pictures.panel_update.Tie as tie
 

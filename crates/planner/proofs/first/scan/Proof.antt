@@ -6,7 +6,7 @@ use mathlib.Core.Logic.{⊎-elim}
 use native.Mathlib.Nat.{not-le-of-lt}
 use borrow.Author.Needs.{needs}
 use denote.Ref.{now}
-use Rattle.instructions.specs.Told.{given}
+use Rattle.paper.specs.Told.{given}
 use Rattle.streams.specs.Picture.{differs}
 use Rattle.planner.specs.First.{firstOn, firstFrom}
 use Rattle.planner.proofs.Scanning.{first-here, first-next, first-end, first-page, first-none}

@@ -2,7 +2,7 @@
 -- Assumes nothing.
 use mathlib.Core.Path.{ap}
 use borrow.Author.Needs.{needs}
-use Rattle.instructions.specs.Told.{given}
+use Rattle.paper.specs.Told.{given}
 use Rattle.planner.proofs.Showing.{tested, both-fit}
 use Rattle.planner.proofs.length.length_for.Statement.{statement}
 use Rattle.planner.proofs.length.length_for.Tie as tie

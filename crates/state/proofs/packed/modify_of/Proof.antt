@@ -1,6 +1,6 @@
 -- `state::packed::modify_of` meets its contract.
 -- Assumes nothing.
-use Rattle.instructions.proofs.Tests.{tests}
+use Rattle.paper.proofs.Tests.{tests}
 use Rattle.state.proofs.packed.modify_of.Statement.{statement}
 use Rattle.state.proofs.packed.modify_of.Tie as tie
 

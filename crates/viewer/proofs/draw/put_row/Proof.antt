@@ -6,7 +6,7 @@ use native.Mathlib.Omega.{arith}
 use borrow.Author.Needs.{needs}
 use borrow.Author.Count.{below-none}
 use lib.ListN.{length, getD, length-set}
-use Rattle.instructions.proofs.Listed.{more, whole}
+use Rattle.paper.proofs.Listed.{more, whole}
 use Rattle.viewer.specs.Drawn.{glyph}
 use Rattle.viewer.proofs.draw.put_row.Statement.{statement}
 use Rattle.viewer.proofs.draw.put_row.Tie as tie

@@ -5,7 +5,7 @@ use mathlib.Core.Path.{_≡_, ap, _∙_}
 use native.Mathlib.Omega.{arith}
 use borrow.Author.Needs.{needs}
 use denote.Ref.{now}
-use Rattle.instructions.specs.Numbers.{numbers0713}
+use Rattle.paper.specs.Sheet.{sheet0713}
 use Rattle.controller.specs.State.{poweredUp, run}
 use Rattle.viewer.proofs.Cycles.{same-cycles}
 use Rattle.viewer.proofs.play.after.Statement.{statement}
@@ -18,7 +18,7 @@ returns c =
     let e : 8 + 2 * n - 8 ≡ 2 * n = omega arith in
     let q = rw e at (c .before .before .from-power-up .ensures) in
     record {
-      after = q .after ∙ ap (run numbers0713 (poweredUp numbers0713 _)) (same-cycles (now (held .args .file)) 0 n (omega (arith, held .pre .0 .whole)));
+      after = q .after ∙ ap (run sheet0713 (poweredUp sheet0713 _)) (same-cycles (now (held .args .file)) 0 n (omega (arith, held .pre .0 .whole)));
       ranged = q .ranged;
     }
 

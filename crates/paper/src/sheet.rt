@@ -1,8 +1,8 @@
-// The numbers in which a chip differs from its sisters.
+// What differs from the data sheet of one chip to that of its sisters.
 ghost use mathlib.Core.Path.{_≡_};
-ghost use Rattle.instructions.specs.Numbers.{numbers0713};
+ghost use Rattle.paper.specs.Sheet.{sheet0713};
 
-pub struct Numbers {
+pub struct Sheet {
     // Columns of the memory, and segments of the glass.
     pub width: usize,
     // Values of a high column byte: the counter holds 16 columns for each.
@@ -14,10 +14,10 @@ pub struct Numbers {
 }
 
 // The KS0713.
-pub fn ks0713() -> Numbers
-    ensures { λ k. ⌜ k ≡ numbers0713 ⌝ }
+pub fn ks0713() -> Sheet
+    ensures { λ k. ⌜ k ≡ sheet0713 ⌝ }
 {
-    Numbers {
+    Sheet {
         width: 132,
         highs: 16,
         rows: 64,

@@ -8,7 +8,7 @@ use native.Mathlib.Omega.{arith}
 use lib.ListN.{length, getD, set, replicate}
 use lib.Seq.{ext-getD, getD-set-same, getD-set-other}
 use borrow.Author.Count.{below-more}
-use Rattle.instructions.specs.Listed.{listed}
+use Rattle.paper.specs.Listed.{listed}
 
 from : (f : ℕ → ℕ) (n i k : ℕ) → k < n → getD (listed f i n) k 0 ≡ f (i + k)
 from f zero i k h = absurd (not-suc-le-zero h)

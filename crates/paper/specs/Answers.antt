@@ -4,7 +4,7 @@ use Prim.Native.Nat.{ℕ}
 use mathlib.Core.Path.{_≡_}
 use mathlib.Core.Bool.{Bool, true, false}
 use mathlib.Core.Option.{Option, none, some}
-use Rattle.instructions.specs.Told.{Told}
+use Rattle.paper.specs.Told.{Told}
 
 -- what stands in an out-parameter: what a value puts there, or what stood there before where there is none
 abbrev pub leftBy : {A B : Type 0} → (A → B) → B → Option A → B

@@ -10,14 +10,14 @@ use native.Mathlib.Omega.{arith}
 use lib.ListN.{length, getD}
 use lib.Dec.{ltb}
 use borrow.Author.Tests.{lt-ltb, ltb-true}
-use Rattle.instructions.specs.Told.{given}
-use Rattle.instructions.specs.Numbers.{Sensible}
+use Rattle.paper.specs.Told.{given}
+use Rattle.paper.specs.Sheet.{Sensible}
 use Rattle.instructions.specs.Read.{readOf}
-use Rattle.instructions.specs.declared.numbers.Numbers.{Numbers}
+use Rattle.paper.specs.declared.sheet.Sheet.{Sheet}
 use Rattle.instructions.specs.declared.instruction.Awaited.the-variants as awaited
 use Rattle.instructions.specs.declared.instruction.Instruction.the-variants.{IndicatorOn, IndicatorValue, Reset}
-use Rattle.instructions.proofs.Either.{either, or-true}
-use Rattle.instructions.proofs.Exactly.{Exactly}
+use Rattle.paper.proofs.Either.{either, or-true}
+use Rattle.paper.proofs.Exactly.{Exactly}
 use Rattle.registers.specs.Registers.{outside, withIndicator, withIndicatorValue, withAwaited, withPinLow, start}
 use Rattle.registers.specs.declared.Registers.{Registers}
 use Rattle.controller.specs.Execute.{executed}
@@ -55,7 +55,7 @@ status-bits r = bits-of (r .adc) (r .on) (r .«pin_low»)
 
 -- ---- status reads and the pin, from any registers in range and a memory of nine pages, the pin low or high
 
-module _ (k : Numbers) (s : State) (long : length (s .memory) ≡ 9 * k .width) (ranged : outside k (s .registers) ≡ false) where
+module _ (k : Sheet) (s : State) (long : length (s .memory) ≡ 9 * k .width) (ranged : outside k (s .registers) ≡ false) where
   -- a status read answers the status byte
   pub status-answered : answer k (s .registers) (s .memory) 2 0 ≡ statusRead (status (s .registers))
   unfolding carried
@@ -73,7 +73,7 @@ module _ (k : Numbers) (s : State) (long : length (s .memory) ≡ 9 * k .width) 
 
 -- ---- AD: indicator on at once, and the next instruction byte mod 4 is its value. All else stays
 
-module _ (k : Numbers) (g : Sensible k) (s : State) (h : Ready k s) where
+module _ (k : Sheet) (g : Sensible k) (s : State) (h : Ready k s) where
   -- the first byte: the indicator is on, and its byte is awaited
   pub indicator-at-once : (number k s (0, 0xad) ≡ 0) × (step k s (0, 0xad) ≡ state (withAwaited (withIndicator (s .registers) true) awaited.Indicator) (s .memory))
   indicator-at-once = let e = obeys k g s h IndicatorOn 0xad refl refl in (e .0, e .1)
@@ -134,7 +134,7 @@ four-reset r = record {
 }
 
 -- from a ready state E2 is accepted, leaves the registers so, and the memory as it was
-pub reset-by-name : (k : Numbers) → Sensible k → (s : State) → Ready k s
+pub reset-by-name : (k : Sheet) → Sensible k → (s : State) → Ready k s
     → (number k s (0, 0xe2) ≡ 0) × FourReset (s .registers) (step k s (0, 0xe2) .registers) × (step k s (0, 0xe2) .memory ≡ s .memory)
 reset-by-name k g s h =
     let e = obeys k g s h Reset 0xe2 refl refl in
@@ -142,7 +142,7 @@ reset-by-name k g s h =
 
 -- ---- a data write below the width
 
-module _ (k : Numbers) (g : Sensible k) (s : State) (h : Restartable k s) (b : ℕ) where
+module _ (k : Sheet) (g : Sensible k) (s : State) (h : Restartable k s) (b : ℕ) where
   -- the cell at page and column
   written-at : s .registers .page < 9 → s .registers .column .0 < k .width
       → getD (step k s (1, b) .memory) (k .width * s .registers .page + s .registers .column .0) 0 ≡ cellOf (s .registers .page) b

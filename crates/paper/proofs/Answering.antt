@@ -8,10 +8,10 @@ use mathlib.Core.Bool.{Bool, true, false, cond}
 use mathlib.Core.Option.{none}
 use lib.Dec.{eqb}
 use borrow.Author.Tests.{eqb-true, eqb-false}
-use Rattle.instructions.specs.Told.{Told, given, refused}
-use Rattle.instructions.specs.Answers.{leftBy, Answers, Through, If}
-use Rattle.instructions.proofs.Cases.{split}
-use Rattle.instructions.proofs.Telling.{refused-one, not-given}
+use Rattle.paper.specs.Told.{Told, given, refused}
+use Rattle.paper.specs.Answers.{leftBy, Answers, Through, If}
+use Rattle.paper.proofs.Cases.{split}
+use Rattle.paper.proofs.Telling.{refused-one, not-given}
 
 module _ {C A B : Type 0} {Is : C → Type 0} {told : C → Told A} {put : A → B} {before : B} where
   pub gives : (a : C) (x : A) → Is a → told a ≡ given x → Through Is told put before (put x) 0

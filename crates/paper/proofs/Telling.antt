@@ -5,7 +5,7 @@ use Prim.Native.Nat.{ℕ}
 use mathlib.Core.Path.{_≡_, _∙_, ap, sym}
 use mathlib.Core.Option.{Option, none, some}
 use native.Mathlib.Omega.{arith}
-use Rattle.instructions.specs.Told.{Told, given, refused}
+use Rattle.paper.specs.Told.{Told, given, refused}
 
 -- answers that are told alike are equal, where what is told leads back to the answer
 pub apart : {A B : Type 0} (told : A → B) (back : B → A) → ((a : A) → back (told a) ≡ a) → (a b : A) → told a ≡ told b → a ≡ b

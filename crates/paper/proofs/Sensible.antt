@@ -1,7 +1,7 @@
--- The KS0713's numbers make sense.
+-- The KS0713's sheet makes sense.
 -- Assumes nothing.
 use lib.Dec.{lit≤}
-use Rattle.instructions.specs.Numbers.{Sensible, numbers0713}
+use Rattle.paper.specs.Sheet.{Sensible, sheet0713}
 
-pub sensible0713 : Sensible numbers0713
+pub sensible0713 : Sensible sheet0713
 sensible0713 = record { wide = lit≤ tt; byte = lit≤ tt; high = lit≤ tt; lines = lit≤ tt; first = lit≤ tt }

@@ -1,0 +1,9 @@
+pub mod Cases
+pub mod Either
+pub mod Exactly
+pub mod Every
+pub mod Listed
+pub mod Telling
+pub mod Answering
+pub mod Tests
+pub mod Sensible

@@ -40,4 +40,27 @@ pack-spec =
     (λ c. search needs)
     (λ c κs. search needs)
     (λ c. search needs)
-    (λ c. cc))
+    (λ c.
+    let saved = c .before in
+    let modify = saved .before in
+    let pin = modify .before in
+    let indicator = pin .before in
+    let on = indicator .before in
+    let entire = on .before in
+    let reverse = entire .before in
+    let shl = reverse .before in
+    let adc = shl .before in
+    let bias = adc .before in
+    rw (
+      c .awaited-byte .ensures,
+      saved .saved-byte .ensures,
+      modify .modify-byte .ensures,
+      pin .flag-byte8 .ensures,
+      indicator .flag-byte7 .ensures,
+      on .flag-byte6 .ensures,
+      entire .flag-byte5 .ensures,
+      reverse .flag-byte4 .ensures,
+      shl .flag-byte3 .ensures,
+      adc .flag-byte2 .ensures,
+      bias .flag-byte .ensures,
+    )))

@@ -1,6 +1,6 @@
 /* The panel model of model.h, written from document 01 alone.
    Sentences in quotes are document 01's own; "Decision" marks a point settled by combining them.
-   Words in the form @name are markers for faults.md and mean nothing else.
+   Words in the form @name are markers for faults.txt and mean nothing else.
 
    Nothing here checks for null pointers, and lent buffers are taken not to overlap one another
    (recorded and wanted may be the same buffer, as both are only read). */

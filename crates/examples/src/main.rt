@@ -59,6 +59,9 @@ fn good() {
     example(b"dummy-read.job");
     example(b"modify-read.job");
     example(b"restart.job");
+    example(b"settings.job");
+    example(b"redraw-dark.job");
+    example(b"redraw-shifted.job");
     example(b"page-nine.job");
     example(b"refused.job");
     example(b"update.job");

@@ -7,11 +7,11 @@ use mathlib.Core.Bool.{Bool, true, false, cond, _&&_}
 use mathlib.Core.List.{List}
 use native.Mathlib.Omega.{arith}
 use native.Mathlib.Nat.{mul-le-mul-left}
-use native.Mathlib.Decide.{decLt}
 use lib.ListN.{length, getD, set, length-set}
 use lib.Seq.{getD-set-same, getD-set-other}
 use lib.Dec.{T, ltb, eqb}
 use borrow.Author.Tests.{lt-ltb, le-ltb, ne-eqb, ltb-true}
+use Rattle.paper.proofs.Cases.{less}
 use Rattle.controller.specs.Memory.{cellOf, isCell, stored, advanced}
 
 -- ---- what a byte shows
@@ -39,13 +39,6 @@ cell-whole p v h = simp (ne-eqb p 8 h)
 -- inside the memory
 pub place : (w p c : ℕ) → p < 9 → c < w → w * p + c < 9 * w
 place w p c hp hc = let h : p ≤ 8 = omega arith in omega (arith, mul-le-mul-left w h)
-
-less : {X : Type 0} (m n : ℕ) → (m < n → X) → (n ≤ m → X) → X
-less {X = X} m n f g = go (decLt m n)
-  where
-    go : Dec (m < n) → X
-    go (yes h) = f h
-    go (no h) = g (omega arith)
 
 -- in one place only: two cells are one only if page and column are
 pub place-one : (w p q c k : ℕ) → c < w → k < w → w * p + c ≡ w * q + k → (p ≡ q) × (c ≡ k)

@@ -9,11 +9,12 @@ use native.Mathlib.Omega.{arith}
 use lib.ListN.{length}
 use lib.Dec.{eqb}
 use borrow.Author.Tests.{eqb-false}
+use Rattle.paper.proofs.Cases.{chosen}
 use Rattle.paper.specs.Sheet.{Sensible}
 use Rattle.instructions.specs.Read.{readOf}
 use Rattle.paper.specs.declared.sheet.Sheet.{Sheet}
 use Rattle.instructions.specs.declared.instruction.Instruction.{Instruction}
-use Rattle.instructions.proofs.Fits.{either, Proper, read-proper}
+use Rattle.instructions.proofs.Fits.{Proper, read-proper}
 use Rattle.registers.specs.Registers.{outside}
 use Rattle.registers.specs.declared.Registers.{Registers}
 use Rattle.controller.specs.Cycle.{Outcome, done, statusRead, dataRead, refusedWith, instructedBy, carried, malformed, heldLow, refusal, answer}
@@ -39,11 +40,11 @@ instructed-so k r n none h = record { most = omega (arith, h); some-number = λ 
 carried-so : (k : Sheet) → Sensible k → (r : Registers) (m : List ℕ) (kind value : ℕ) → Numbered (carried k r m kind value)
 unfolding carried
 carried-so k g r m kind value =
-    either Numbered (eqb kind 0) (instructed-so k r _ (readOf k (r .awaited) value .value) (read-proper k g (r .awaited) value))
-    (either Numbered (eqb kind 1) (done-so _)
-    (either Numbered (eqb kind 2) (status-so _)
-    (either Numbered (eqb kind 3) (read-so _ _)
-    (either Numbered (eqb kind 4) (done-so _) (done-so _)))))
+    chosen Numbered (eqb kind 0) (instructed-so k r _ (readOf k (r .awaited) value .value) (read-proper k g (r .awaited) value))
+    (chosen Numbered (eqb kind 1) (done-so _)
+    (chosen Numbered (eqb kind 2) (status-so _)
+    (chosen Numbered (eqb kind 3) (read-so _ _)
+    (chosen Numbered (eqb kind 4) (done-so _) (done-so _)))))
 
 refusal-most : (k : Sheet) (n : ℕ) (r : Registers) (kind value : ℕ) → refusal k n r kind value ≤ 9
 unfolding refusal

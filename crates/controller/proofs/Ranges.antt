@@ -8,15 +8,17 @@ use mathlib.Core.List.{List}
 use native.Mathlib.Omega.{arith}
 use lib.ListN.{length}
 use lib.Dec.{ltb, eqb}
-use borrow.Author.Tests.{ltb-true, eqb-true}
+use borrow.Author.Tests.{ltb-true, eqb-true, not-false}
 use Rattle.paper.specs.Refusal.{wrongSize}
 use Rattle.paper.specs.Sheet.{Sensible}
+use Rattle.paper.proofs.Cases.{chosen}
+use Rattle.paper.proofs.Exactly.{past}
 use Rattle.instructions.specs.Read.{readOf}
 use Rattle.paper.specs.declared.sheet.Sheet.{Sheet}
 use Rattle.instructions.specs.declared.instruction.Instruction.{Instruction}
 use Rattle.instructions.specs.declared.instruction.Instruction.the-variants.{ColumnLow, ColumnHigh, Resistor, Power, StartLine, ContrastNext, ContrastValue, Adc, Bias, Entire, Reverse, IndicatorOff, IndicatorOn, IndicatorValue, Display, Page, Shl, ModifyReadOn, ModifyReadOff, Reset, Nop}
 use Rattle.instructions.proofs.Fields.{in-field}
-use Rattle.instructions.proofs.Fits.{either, Fits, Proper, read-proper}
+use Rattle.instructions.proofs.Fits.{Fits, Proper, read-proper}
 use Rattle.registers.specs.Registers.{savedOf, Ranged}
 use Rattle.registers.specs.declared.ModifyRead.{ModifyRead}
 use Rattle.registers.specs.declared.ModifyRead.the-variants.{Off, On}
@@ -31,16 +33,14 @@ use Rattle.controller.proofs.Cells.{stored-length}
 
 -- what bounds both bounds the one that is chosen
 pub cond-le : (b : Bool) (x y n : ℕ) → x ≤ n → y ≤ n → cond b x y ≤ n
-cond-le b x y n p q = either (λ (z : ℕ). z ≤ n) b p q
-
-passed : (b : Bool) (x : ℕ) → cond (not b) wrongSize x ≡ 0 → b ≡ true
-passed true x e = refl
-passed false x e = absurd (let z : _≡_ {A = ℕ} 1 0 = e in omega arith)
+cond-le b x y n p q = chosen (λ (z : ℕ). z ≤ n) b p q
 
 -- where nothing is refused the memory is nine pages long
 pub long : (k : Sheet) (n : ℕ) (r : Registers) (kind value : ℕ) → refusal k n r kind value ≡ 0 → n ≡ 9 * k .width
 unfolding refusal
-long k n r kind value e = eqb-true n (9 * k .width) (passed (eqb n (9 * k .width)) _ e)
+long k n r kind value e =
+    let t = eqb n (9 * k .width) in
+    eqb-true n (9 * k .width) (not-false t (past (not t) wrongSize _ 0 (λ z. omega arith) .0 e .0))
 
 -- ---- an instruction inside its fields
 
@@ -137,12 +137,12 @@ pub stays-ranged : (k : Sheet) → Sensible k → (r : Registers) (m : List ℕ)
 unfolding answer carried
 stays-ranged k g r m kind value h =
     let P : Outcome → Type 0 = λ o. Ranged k (afterBy r (o .registers)) in
-    either P (eqb (refusal k (length m) r kind value) 0)
-    (either P (eqb kind 0) (instructed-ranged k g r _ (readOf k (r .awaited) value .value) (read-proper k g (r .awaited) value) h)
-    (either P (eqb kind 1) (written-ranged k g r value h)
-    (either P (eqb kind 2) h
-    (either P (eqb kind 3) (read-ranged k g r (r .«modify_read») _ h)
-    (either P (eqb kind 4) (omega (arith, g .wide, g .first)) (omega arith))))))
+    chosen P (eqb (refusal k (length m) r kind value) 0)
+    (chosen P (eqb kind 0) (instructed-ranged k g r _ (readOf k (r .awaited) value .value) (read-proper k g (r .awaited) value) h)
+    (chosen P (eqb kind 1) (written-ranged k g r value h)
+    (chosen P (eqb kind 2) h
+    (chosen P (eqb kind 3) (read-ranged k g r (r .«modify_read») _ h)
+    (chosen P (eqb kind 4) (omega (arith, g .wide, g .first)) (omega arith))))))
     h
 
 -- and the memory as long as it was
@@ -150,6 +150,6 @@ pub stays-long : (k : Sheet) (r : Registers) (m : List ℕ) (kind value : ℕ) �
 unfolding memoryAfter kept
 stays-long k r m kind value =
     let P : List ℕ → Type 0 = λ l. length l ≡ length m in
-    either P (eqb (refusal k (length m) r kind value) 0)
-    (either P (eqb kind 1) (stored-length (k .width) m (r .page) (r .column .0) value) refl)
+    chosen P (eqb (refusal k (length m) r kind value) 0)
+    (chosen P (eqb kind 1) (stored-length (k .width) m (r .page) (r .column .0) value) refl)
     refl

@@ -12,13 +12,13 @@ use native.Mathlib.Numerals.{add-one}
 use lib.ListN.{length}
 use lib.Dec.{eqb}
 use borrow.Author.Tests.{eqb-true}
+use Rattle.paper.proofs.Cases.{chosen}
 use Rattle.paper.specs.Sheet.{Sensible}
 use Rattle.instructions.specs.Read.{readOf}
 use Rattle.paper.specs.declared.sheet.Sheet.{Sheet}
 use Rattle.instructions.specs.declared.instruction.Instruction.{Instruction}
 use Rattle.instructions.specs.declared.instruction.Instruction.the-variants.{ColumnLow, ColumnHigh, Page, ModifyReadOn, ModifyReadOff}
 use Rattle.instructions.proofs.Fields.{field-given}
-use Rattle.instructions.proofs.Fits.{either}
 use Rattle.registers.specs.Registers.{outside, withModifyRead, withHolder, withPinLow, start}
 use Rattle.registers.specs.declared.Column.{Column}
 use Rattle.registers.specs.declared.ModifyRead.{ModifyRead}
@@ -45,8 +45,8 @@ pub status-nothing : (k : Sheet) (s : State) (value : ℕ) → step k s (2, valu
 unfolding answer carried memoryAfter kept
 status-nothing k s value =
     let t = eqb (refusal k (length (s .memory)) (s .registers) 2 value) 0 in
-    ap (λ o. state (afterBy (s .registers) o) (memoryAfter k (s .registers) (s .memory) 2 value)) (either (λ (o : Outcome). o .registers ≡ none) t refl refl)
-    ∙ ap (state (s .registers)) (either (λ (m : List ℕ). m ≡ s .memory) t refl refl)
+    ap (λ o. state (afterBy (s .registers) o) (memoryAfter k (s .registers) (s .memory) 2 value)) (chosen (λ (o : Outcome). o .registers ≡ none) t refl refl)
+    ∙ ap (state (s .registers)) (chosen (λ (m : List ℕ). m ≡ s .memory) t refl refl)
 
 -- a refused cycle, so that an instruction refused leaves the awaited byte too
 module _ (k : Sheet) (r : Registers) (m : List ℕ) (value : ℕ) where
@@ -61,9 +61,9 @@ module _ (k : Sheet) (r : Registers) (m : List ℕ) (value : ℕ) where
   silent : (kind : ℕ) → Silent (answer k r m kind value)
   unfolding answer carried
   silent kind =
-      either Silent (eqb (refusal k (length m) r kind value) 0)
-      (either Silent (eqb kind 0) (silent-by _ (readOf k (r .awaited) value .value))
-      (either Silent (eqb kind 1) (inl refl) (either Silent (eqb kind 2) (inl refl) (either Silent (eqb kind 3) (inl refl) (either Silent (eqb kind 4) (inl refl) (inl refl))))))
+      chosen Silent (eqb (refusal k (length m) r kind value) 0)
+      (chosen Silent (eqb kind 0) (silent-by _ (readOf k (r .awaited) value .value))
+      (chosen Silent (eqb kind 1) (inl refl) (chosen Silent (eqb kind 2) (inl refl) (chosen Silent (eqb kind 3) (inl refl) (chosen Silent (eqb kind 4) (inl refl) (inl refl))))))
       (inr refl)
 
   -- and then the memory stays
@@ -76,7 +76,7 @@ module _ (k : Sheet) (r : Registers) (m : List ℕ) (value : ℕ) where
       by : (P : Bool → Type 0) (b : Bool) → P true → P false → P b
       by P true p q = p
       by P false p q = q
-  stays-at kind false e = inr (either (λ (l : List ℕ). l ≡ m) (eqb (refusal k (length m) r kind value) 0) (rw e refl) refl)
+  stays-at kind false e = inr (chosen (λ (l : List ℕ). l ≡ m) (eqb (refusal k (length m) r kind value) 0) (rw e refl) refl)
 
 refused-by : {A : Type 0} (n : ℕ) → n ≢ 0 → (n ≡ 0) ⊎ A → A
 refused-by n h (inl e) = absurd (h e)
@@ -115,13 +115,13 @@ read-leaves w r (On c) b = record { page = refl; modify-read = refl; awaited = r
 pub write-leaves : (k : Sheet) (s : State) (value : ℕ) → Left (s .registers) (step k s (1, value) .registers)
 unfolding answer carried written
 write-leaves k s value =
-    either (λ (o : Outcome). Left (s .registers) (afterBy (s .registers) (o .registers))) (eqb (refusal k (length (s .memory)) (s .registers) 1 value) 0)
+    chosen (λ (o : Outcome). Left (s .registers) (afterBy (s .registers) (o .registers))) (eqb (refusal k (length (s .memory)) (s .registers) 1 value) 0)
     (record { page = refl; modify-read = refl; awaited = refl }) (left-all (s .registers))
 
 pub read-keeps : (k : Sheet) (s : State) (value : ℕ) → Left (s .registers) (step k s (3, value) .registers)
 unfolding answer carried
 read-keeps k s value =
-    either (λ (o : Outcome). Left (s .registers) (afterBy (s .registers) (o .registers))) (eqb (refusal k (length (s .memory)) (s .registers) 3 value) 0)
+    chosen (λ (o : Outcome). Left (s .registers) (afterBy (s .registers) (o .registers))) (eqb (refusal k (length (s .memory)) (s .registers) 3 value) 0)
     (read-leaves (k .width) (s .registers) (s .registers .«modify_read») _) (left-all (s .registers))
 
 -- ---- the column never runs on into another page: behind the last column a data write stores nothing, and the column stays where it is

@@ -8,6 +8,7 @@ use mathlib.Core.Option.{Option, none, some}
 use mathlib.Core.List.{List}
 use lib.ListN.{length}
 use lib.Dec.{eqb}
+use Rattle.paper.proofs.Cases.{chosen}
 use Rattle.paper.specs.Refusal.{wrongSize, outOfRange, pinLow, unassigned, wrongCycle}
 use Rattle.instructions.specs.Read.{readOf, assigned, nothingAwaited}
 use Rattle.paper.specs.declared.sheet.Sheet.{Sheet}
@@ -15,7 +16,6 @@ use Rattle.instructions.specs.declared.instruction.Awaited.{Awaited}
 use Rattle.instructions.specs.declared.instruction.Awaited.the-variants as awaited
 use Rattle.instructions.specs.declared.instruction.Instruction.{Instruction}
 use Rattle.paper.proofs.Telling.{apart}
-use Rattle.instructions.proofs.Fits.{either}
 use Rattle.instructions.proofs.Unique.{read-none, read-some}
 use Rattle.registers.specs.Registers.{outside}
 use Rattle.registers.specs.declared.Registers.{Registers}
@@ -84,4 +84,4 @@ module _ (k : Sheet) (r : Registers) (value : ℕ) (h : value < 256) where
       ∙ ap (λ (n : ℕ). cond (not (eqb (length m) (9 * k .width))) wrongSize (cond (outside k r) outOfRange (cond (malformed kind value) wrongCycle (cond (heldLow r kind) pinLow n))))
       (carried-number (eqb kind 0) _
       (let P : Outcome → Type 0 = λ o. o .number ≡ 0 in
-      either P (eqb kind 1) refl (either P (eqb kind 2) refl (either P (eqb kind 3) refl (either P (eqb kind 4) refl refl)))))
+      chosen P (eqb kind 1) refl (chosen P (eqb kind 2) refl (chosen P (eqb kind 3) refl (chosen P (eqb kind 4) refl refl)))))

@@ -1,8 +1,8 @@
 -- Where a byte of a frame stands, and how long memory and frame are where nothing is refused.
 -- Assumes nothing.
 use Prim.Native.Nat.{ℕ, _+_, _*_, _/_, _%_, _≤_, _<_}
-use mathlib.Core.Path.{_≡_, refl}
-use mathlib.Core.Bool.{Bool, true, false, cond, not, _||_}
+use mathlib.Core.Path.{_≡_}
+use mathlib.Core.Bool.{false, not, _||_}
 use native.Mathlib.Omega.{arith}
 use native.Mathlib.Nat.{div-lt-iff-lt-mul, mod-lt}
 use lib.Dec.{eqb}
@@ -13,6 +13,7 @@ use Rattle.registers.specs.declared.Registers.{Registers}
 use Rattle.controller.proofs.Cells.{place}
 use Rattle.glass.specs.Frame.{refusal}
 use Rattle.paper.proofs.Either.{neither}
+use Rattle.paper.proofs.Exactly.{past}
 
 -- a line is on one of 9 pages
 pub line-place : (w line c : ℕ) → line ≤ 64 → c < w → w * (line / 8) + c < 9 * w
@@ -31,11 +32,9 @@ right-sizes size m n e =
     let p = neither (not (eqb m size)) (not (eqb n size)) e in
     (eqb-true m size (not-false (eqb m size) (p .0)), eqb-true n size (not-false (eqb n size) (p .1)))
 
-passed : (t : Bool) (x : ℕ) → cond t wrongSize x ≡ 0 → t ≡ false
-passed true x e = absurd (let z : _≡_ {A = ℕ} 1 0 = e in omega arith)
-passed false x e = refl
-
 -- where nothing is refused the memory and the frame are 9 strips long
 pub long : (c : Sheet) (r : Registers) (m n : ℕ) → refusal c r m n ≡ 0 → (m ≡ 9 * c .width) × (n ≡ 9 * c .width)
 unfolding refusal
-long c r m n e = right-sizes (9 * c .width) m n (passed (not (eqb m (9 * c .width)) || not (eqb n (9 * c .width))) _ e)
+long c r m n e =
+    let t = not (eqb m (9 * c .width)) || not (eqb n (9 * c .width)) in
+    right-sizes (9 * c .width) m n (past t wrongSize _ 0 (λ z. omega arith) .0 e .0)

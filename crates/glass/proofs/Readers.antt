@@ -3,7 +3,7 @@
 use Prim.Native.Nat.{ℕ, _+_, _-_, _*_, _/_, _%_, _≤_, _<_}
 use mathlib.Core.Path.{_≡_, _∙_, refl, ap}
 use mathlib.Core.Logic.{_≢_}
-use mathlib.Core.Bool.{Bool, true, false, cond, not}
+use mathlib.Core.Bool.{Bool, true, false, not}
 use mathlib.Core.List.{List}
 use native.Mathlib.Nat.{mul-add-div, mul-add-mod-self-left, mod-eq-of-lt, div-eq-of-lt, add-zero}
 use native.Mathlib.Decide.{decLt}
@@ -11,6 +11,7 @@ use native.Mathlib.Omega.{arith}
 use lib.ListN.{length, getD, replicate}
 use lib.Dec.{ltb, eqb}
 use borrow.Author.Tests.{lt-ltb, le-ltb, ne-eqb}
+use Rattle.paper.proofs.Cases.{chosen}
 use Rattle.paper.specs.Sheet.{Sensible, sheet0713}
 use Rattle.paper.specs.declared.sheet.Sheet.{Sheet}
 use Rattle.registers.specs.Registers.{withStartLine, withAdc, withShl, withReverse}
@@ -21,11 +22,6 @@ use Rattle.glass.specs.Dot.{lineOf, columnOf, dotOf, dotAt, litOf}
 use Rattle.glass.specs.Frame.{stripByte, frameOf}
 use Rattle.paper.proofs.Listed.{at, length-listed, listed-same}
 use Rattle.glass.proofs.Bits.{bit-is, sum-same}
-
--- a value that both arms have
-same : {A : Type 0} (b : Bool) {x y z : A} → x ≡ z → y ≡ z → cond b x y ≡ z
-same true p q = p
-same false p q = q
 
 module _ (c : Sheet) (r : Registers) (m : List ℕ) where
   -- ---- the bytes of the frame
@@ -62,7 +58,7 @@ module _ (c : Sheet) (r : Registers) (m : List ℕ) where
   -- a display that is off shows no dot, whatever else is set
   pub off-dark : r .on ≡ false → (k s : ℕ) → litOf c r m k s ≡ false
   unfolding litOf dotAt dotOf
-  off-dark h k s = same (ltb k (c .rows)) (rw h) (same (eqb k 64) (rw h) refl)
+  off-dark h k s = chosen (λ (d : Bool). d ≡ false) (ltb k (c .rows)) (rw h) (chosen (λ (d : Bool). d ≡ false) (eqb k 64) (rw h) refl)
 
   pub off-frame : r .on ≡ false → frameOf c r m ≡ replicate (9 * c .width) 0
   unfolding frameOf stripByte sumOf
@@ -77,7 +73,7 @@ module _ (c : Sheet) (r : Registers) (m : List ℕ) where
 
   pub entire-icon : r .on ≡ true → r .entire ≡ true → (s : ℕ) → litOf c r m 64 s ≡ true
   unfolding litOf dotAt dotOf
-  entire-icon h e s = same (ltb 64 (c .rows)) (rw (h, e)) (rw (h, e))
+  entire-icon h e s = chosen (λ (d : Bool). d ≡ true) (ltb 64 (c .rows)) (rw (h, e)) (rw (h, e))
 
   -- reverse turns each dot of a display that is on and not entire, the icon row too
   pub reverse-turns : r .on ≡ true → r .entire ≡ false → (k s : ℕ) → k < c .rows

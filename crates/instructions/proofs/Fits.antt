@@ -7,6 +7,7 @@ use mathlib.Core.Option.{Option, none, some}
 use native.Mathlib.Omega.{arith}
 use lib.Dec.{eqb, ltb, leb}
 use borrow.Author.Tests.{ltb-true, ltb-false}
+use Rattle.paper.proofs.Cases.{chosen}
 use Rattle.paper.specs.Refusal.{unassigned}
 use Rattle.paper.specs.Told.{Told, given}
 use Rattle.paper.specs.Sheet.{Sensible}
@@ -17,11 +18,6 @@ use Rattle.instructions.specs.declared.instruction.Awaited.{Awaited}
 use Rattle.instructions.specs.declared.instruction.Awaited.the-variants as awaited
 use Rattle.instructions.specs.declared.instruction.Instruction.{Instruction}
 use Rattle.instructions.proofs.Fields.{field-given}
-
--- what holds of both holds of the one that is chosen
-pub either : {A : Type 0} (P : A → Type 0) (t : Bool) {x y : A} → P x → P y → P (cond t x y)
-either P true p q = p
-either P false p q = q
 
 -- an instruction is inside its fields: its byte is not refused
 abbrev pub Fits : Sheet → Instruction → Type 0
@@ -53,25 +49,25 @@ by-proper : (k : Sheet) → Sensible k → (c b : ℕ) → Proper k (readBy k c 
 unfolding readBy
 by-proper k g c b =
     let P : Told Instruction → Type 0 = λ t. Proper k (t .number) (t .value) in
-    either P (eqb c 1) (refl, field-fits 0x00 16 (b % 16) (omega arith))
-    (either P (eqb c 2) (refl, field-fits 0x10 (k .highs) (roomIn (k .highs) (b % 16)) (room-in k g (b % 16) (omega arith)))
-    (either P (eqb c 3) (refl, field-fits 0x20 8 (b % 8) (omega arith))
-    (either P (eqb c 4) (refl, field-fits 0x28 8 (b % 8) (omega arith))
-    (either P (eqb c 5) (refl, field-fits 0x40 64 (b % 64) (omega arith))
-    (either P (eqb c 6) (refl, refl)
-    (either P (eqb c 7) (refl, flag-fits 0xa0 0xa1 (eqb (b % 2) 1))
-    (either P (eqb c 8) (refl, flag-fits 0xa2 0xa3 (eqb (b % 2) 1))
-    (either P (eqb c 9) (refl, flag-fits 0xa4 0xa5 (eqb (b % 2) 1))
-    (either P (eqb c 10) (refl, flag-fits 0xa6 0xa7 (eqb (b % 2) 1))
-    (either P (eqb c 11) (refl, refl)
-    (either P (eqb c 12) (refl, refl)
-    (either P (eqb c 13) (refl, flag-fits 0xae 0xaf (eqb (b % 2) 1))
-    (either P (eqb c 14) (refl, field-fits 0xb0 16 (b % 16) (omega arith))
-    (either P (eqb c 15) (refl, flag-fits 0xc0 0xc8 (leb 8 (b % 16)))
-    (either P (eqb c 16) (refl, refl)
-    (either P (eqb c 17) (refl, refl)
-    (either P (eqb c 18) (refl, refl)
-    (either P (eqb c 19) (refl, refl)
+    chosen P (eqb c 1) (refl, field-fits 0x00 16 (b % 16) (omega arith))
+    (chosen P (eqb c 2) (refl, field-fits 0x10 (k .highs) (roomIn (k .highs) (b % 16)) (room-in k g (b % 16) (omega arith)))
+    (chosen P (eqb c 3) (refl, field-fits 0x20 8 (b % 8) (omega arith))
+    (chosen P (eqb c 4) (refl, field-fits 0x28 8 (b % 8) (omega arith))
+    (chosen P (eqb c 5) (refl, field-fits 0x40 64 (b % 64) (omega arith))
+    (chosen P (eqb c 6) (refl, refl)
+    (chosen P (eqb c 7) (refl, flag-fits 0xa0 0xa1 (eqb (b % 2) 1))
+    (chosen P (eqb c 8) (refl, flag-fits 0xa2 0xa3 (eqb (b % 2) 1))
+    (chosen P (eqb c 9) (refl, flag-fits 0xa4 0xa5 (eqb (b % 2) 1))
+    (chosen P (eqb c 10) (refl, flag-fits 0xa6 0xa7 (eqb (b % 2) 1))
+    (chosen P (eqb c 11) (refl, refl)
+    (chosen P (eqb c 12) (refl, refl)
+    (chosen P (eqb c 13) (refl, flag-fits 0xae 0xaf (eqb (b % 2) 1))
+    (chosen P (eqb c 14) (refl, field-fits 0xb0 16 (b % 16) (omega arith))
+    (chosen P (eqb c 15) (refl, flag-fits 0xc0 0xc8 (leb 8 (b % 16)))
+    (chosen P (eqb c 16) (refl, refl)
+    (chosen P (eqb c 17) (refl, refl)
+    (chosen P (eqb c 18) (refl, refl)
+    (chosen P (eqb c 19) (refl, refl)
     refl))))))))))))))))))
 
 pub read-proper : (k : Sheet) → Sensible k → (a : Awaited) (b : ℕ) → Proper k (readOf k a b .number) (readOf k a b .value)

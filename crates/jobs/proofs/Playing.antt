@@ -1,6 +1,6 @@
 -- Playing a job a turn at a time: what is put, and what remains to be put.
 -- Assumes nothing.
-use Prim.Native.Nat.{ℕ, suc, _+_, _*_, _-_, _≤_, _<_}
+use Prim.Native.Nat.{ℕ, _+_, _*_, _-_, _≤_, _<_}
 use mathlib.Core.Path.{_≡_, refl, sym, ap, subst, _∙_}
 use mathlib.Core.Option.{Option, none, some}
 use mathlib.Core.List.{List, _++_, append-nil}
@@ -22,6 +22,7 @@ use Rattle.planner.specs.Count.{toldCount, IsLength}
 use Rattle.planner.specs.declared.count.Count.{Count}
 use Rattle.planner.specs.declared.count.Count.the-variants as count
 use Rattle.planner.proofs.Exactly.{right-size}
+use Rattle.paper.proofs.Left.{one-fewer, none-left}
 use Rattle.jobs.specs.Header.{cycleAt, picture2, IsHeader}
 use Rattle.jobs.specs.Text.{badLine, endLine, updateLine}
 use Rattle.jobs.specs.Memory.{startMemory}
@@ -75,7 +76,7 @@ module _ (file : List ℕ) (j : Job) (i : ℕ) (s : State) where
   text-step : i < j .cycles → textFrom file j s i (j .cycles - i)
       ≡ lineOf i (answerAt file i s) ++ textFrom file j (step sheet0713 s (cycleAt file i)) (i + 1) (j .cycles - (i + 1))
   unfolding textFrom
-  text-step h = let e : j .cycles - i ≡ suc (j .cycles - (i + 1)) = omega arith in rw (e, add-one i)
+  text-step h = rw (one-fewer i (j .cycles) h, add-one i)
 
   pub remains-turn : {w o₀ o o′ : List ℕ} {s′ : State} {at at′ : ℕ} → i < j .cycles → Remains w o₀ o at (textFrom file j s i (j .cycles - i))
       → Turned file i s o at s′ o′ at′ → Remains w o₀ o′ at′ (textFrom file j s′ (i + 1) (j .cycles - (i + 1)))
@@ -83,7 +84,7 @@ module _ (file : List ℕ) (j : Job) (i : ℕ) (s : State) where
 
   pub remains-ending : {w o₀ o : List ℕ} {at : ℕ} → j .cycles ≤ i → Remains w o₀ o at (textFrom file j s i (j .cycles - i)) → Remains w o₀ o at (ending file j s)
   unfolding textFrom
-  remains-ending h q = let e : j .cycles - i ≡ 0 = omega arith in rw e at q
+  remains-ending h q = rw (none-left i (j .cycles) h) at q
 
 -- ---- the last lines
 

@@ -1,11 +1,10 @@
 -- A job's header: the scan over its cycles a turn at a time, and what the test of its sizes says.
 -- Assumes nothing.
-use Prim.Native.Nat.{ℕ, suc, _+_, _*_, _-_, _≤_, _<_}
+use Prim.Native.Nat.{ℕ, _+_, _*_, _-_, _≤_, _<_}
 use mathlib.Core.Path.{_≡_, refl, sym, ap, _∙_}
-use mathlib.Core.Bool.{Bool, true, false, _||_}
+use mathlib.Core.Bool.{Bool, true, false}
 use mathlib.Core.List.{List}
 use native.Mathlib.Numerals.{add-one}
-use native.Mathlib.Omega.{arith}
 use borrow.Author.Tests.{ltb-false, eqb-true, not-false, lt-ltb, le-ltb, eq-eqb}
 use lib.ListN.{length}
 use Rattle.paper.specs.Refusal.{shortJob, wrongHeader, wrongCycle}
@@ -13,6 +12,8 @@ use Rattle.paper.specs.Told.{given, refused}
 use Rattle.paper.proofs.Telling.{given-one, not-given}
 use Rattle.controller.specs.Cycle.{malformed}
 use Rattle.paper.proofs.Cases.{split, less}
+use Rattle.paper.proofs.Either.{neither}
+use Rattle.paper.proofs.Left.{one-fewer, none-left}
 use Rattle.jobs.specs.Header.{wordAt, cycleAt, wrongSizes, wrongCycles, headerOf, toldHeader, IsHeader}
 use Rattle.jobs.specs.Output.{Holds}
 use Rattle.jobs.specs.declared.header.Job.{Job}
@@ -22,20 +23,17 @@ use Rattle.jobs.specs.declared.header.Header.the-variants.{Good}
 -- ---- the cycles, from i on
 
 module _ (file : List ℕ) (n i : ℕ) (h : i < n) where
-  left : n - i ≡ suc (n - (i + 1))
-  left = omega arith
-
   pub scan-good : malformed (cycleAt file i .0) (cycleAt file i .1) ≡ false → wrongCycles file i (n - i) ≡ wrongCycles file (i + 1) (n - (i + 1))
   unfolding wrongCycles
-  scan-good e = rw (left, e, add-one i)
+  scan-good e = rw (one-fewer i n h, e, add-one i)
 
   pub scan-wrong : malformed (cycleAt file i .0) (cycleAt file i .1) ≡ true → wrongCycles file i (n - i) ≡ true
   unfolding wrongCycles
-  scan-wrong e = rw (left, e)
+  scan-wrong e = rw (one-fewer i n h, e)
 
 pub scan-end : (file : List ℕ) (n i : ℕ) → n ≤ i → wrongCycles file i (n - i) ≡ false
 unfolding wrongCycles
-scan-end file n i h = let e : n - i ≡ 0 = omega arith in rw e
+scan-end file n i h = rw (none-left i n h)
 
 -- ---- the sizes
 
@@ -46,10 +44,6 @@ pub record Sized (n cycles p pictures total : ℕ) : Type 0 where
   pub two : p ≤ 2
   pub pictures-at : pictures ≡ 8 + 2 * n
   pub whole : total ≡ 8 + 2 * n + 1188 * p
-
-neither : (a b : Bool) → a || b ≡ false → (a ≡ false) × (b ≡ false)
-neither false b e = (refl, e)
-neither true b e = absurd (let z : _≡_ {A = ℕ} 0 1 = cc in omega arith)
 
 pub sizes-right : (n cycles p pictures total : ℕ) → wrongSizes n cycles p pictures total ≡ false → Sized n cycles p pictures total
 unfolding wrongSizes

@@ -14,19 +14,19 @@ use Rattle.paper.proofs.Cases.{split}
 use Rattle.paper.proofs.Telling.{refused-one, not-given}
 
 module _ {C A B : Type 0} {Is : C → Type 0} {told : C → Told A} {put : A → B} {before : B} where
-  pub gives : (a : C) (x : A) → Is a → told a ≡ given x → Through Is told put before (put x) 0
-  gives a x h e = record {
-    answer = a;
-    promised = h;
-    answers = record { number = sym (ap (λ t. t .number) e); left = sym (ap (λ t. leftBy put before (t .value)) e) };
-  }
+  -- the answer a is b, of which so much is told
+  through : {a b : C} {t : Told A} → a ≡ b → told b ≡ t → Is a → Through Is told put before (leftBy put before (t .value)) (t .number)
+  through {a} e q h =
+      let f = ap told e ∙ q in
+      record { answer = a; promised = h; answers = record { number = sym (ap (λ u. u .number) f); left = sym (ap (λ u. leftBy put before (u .value)) f) } }
 
-  pub refuses : (a : C) (n : ℕ) → Is a → told a ≡ refused n → Through Is told put before before n
-  refuses a n h e = record {
-    answer = a;
-    promised = h;
-    answers = record { number = sym (ap (λ t. t .number) e); left = sym (ap (λ t. leftBy put before (t .value)) e) };
-  }
+  -- a value, which goes into the out-parameters
+  pub gives : {a b : C} {x : A} → a ≡ b → told b ≡ given x → Is a → Through Is told put before (put x) 0
+  gives {x = x} e q h = through {t = given x} e q h
+
+  -- a refusal, which leaves them
+  pub refuses : {a b : C} {n : ℕ} → a ≡ b → told b ≡ refused n → Is a → Through Is told put before before n
+  refuses {n = n} e q h = through {t = refused n} e q h
 
 -- ---- what is told alike comes out alike
 

@@ -1,8 +1,9 @@
--- Case splits that keep what the case tells: on a test, and on an order. Either the one side holds or the other.
+-- Case splits that keep what the case tells: on a test, and on an order. Either the one side holds or the other. And what holds on
+-- both sides of a test.
 -- Assumes nothing.
 use Prim.Native.Nat.{ℕ, _≤_, _<_}
 use mathlib.Core.Path.{_≡_, refl}
-use mathlib.Core.Bool.{Bool, true, false}
+use mathlib.Core.Bool.{Bool, true, false, cond}
 use native.Mathlib.Omega.{arith}
 use native.Mathlib.Decide.{decLt}
 
@@ -16,3 +17,8 @@ less {X = X} m n f g = go (decLt m n)
     go : Dec (m < n) → X
     go (yes h) = f h
     go (no h) = g (omega arith)
+
+-- what holds of both holds of the one that is chosen
+pub chosen : {A : Type 0} (P : A → Type 0) (t : Bool) {x y : A} → P x → P y → P (cond t x y)
+chosen P true p q = p
+chosen P false p q = q

@@ -2,6 +2,7 @@ pub mod Cases
 pub mod Either
 pub mod Exactly
 pub mod Every
+pub mod Left
 pub mod Listed
 pub mod Telling
 pub mod Answering

@@ -12,22 +12,20 @@ use Rattle.streams.specs.Picture.{differs}
 use Rattle.streams.specs.Stretch.{Place}
 use Rattle.paper.specs.Told.{given}
 use Rattle.paper.proofs.Cases.{split, less}
+use Rattle.paper.proofs.Left.{one-fewer}
 use Rattle.planner.specs.Pictures.{misfit}
 use Rattle.planner.specs.First.{firstOn, firstFrom, firstDifference}
-
-left : (c n : ℕ) → c < n → n - c ≡ suc (n - (c + 1))
-left c n h = omega arith
 
 module _ (d : ℕ → Bool) (p W c : ℕ) (later : Option Place) where
   -- a column that differs ends the scan
   pub first-here : c < W → d c ≡ true → firstOn d p c (W - c) later ≡ some (record { page = p; column = c })
   unfolding firstOn
-  first-here h e = rw (left c W h, e)
+  first-here h e = rw (one-fewer c W h, e)
 
   -- one that does not is passed
   pub first-next : c < W → d c ≡ false → firstOn d p c (W - c) later ≡ firstOn d p (c + 1) (W - (c + 1)) later
   unfolding firstOn
-  first-next h e = rw (left c W h, e, add-one)
+  first-next h e = rw (one-fewer c W h, e, add-one)
 
   -- past the last column the pages after it answer
   pub first-end : W ≤ c → firstOn d p c (W - c) later ≡ later
@@ -39,7 +37,7 @@ module _ (W : ℕ) (r w : List ℕ) (p : ℕ) where
   pub first-page : p < 9
       → firstFrom W r w p (9 - p) ≡ firstOn (differs W r w p) p 0 (W - 0) (firstFrom W r w (p + 1) (9 - (p + 1)))
   unfolding firstFrom
-  first-page h = let z : W - 0 ≡ W = omega arith in rw (left p 9 h, z, add-one)
+  first-page h = let z : W - 0 ≡ W = omega arith in rw (one-fewer p 9 h, z, add-one)
 
   pub first-none : 9 ≤ p → firstFrom W r w p (9 - p) ≡ none
   unfolding firstFrom

@@ -19,24 +19,18 @@ use Rattle.streams.specs.Update.{Run, joins, join, joinIf, runs, wantedB
 use Rattle.streams.specs.Redraw.{wholePage, wholePages, redraw, opening, redrawStream}
 use Rattle.streams.specs.Walk.{lead, piece, pieceIf, walk, walkPages}
 use Rattle.paper.proofs.Cases.{split}
+use Rattle.paper.proofs.Left.{one-fewer, none-left}
 use Rattle.streams.proofs.Runs.{joins-near, joins-far, joins-yes, joins-no, Fits, runs-fit}
 use Rattle.streams.proofs.Emitting.{address-on, address-off, on-same, Under, under-off, emit-append, emit-place}
 use Rattle.streams.proofs.Painting.{wantedBytes-length}
 use Rattle.streams.proofs.Length.{page-under}
-
--- one column or page fewer is left
-left : (c to : ℕ) → c < to → to - c ≡ suc (to - (c + 1))
-left c to h = omega arith
-
-none-left : (c to : ℕ) → to ≤ c → to - c ≡ 0
-none-left c to h = omega arith
 
 module _ (W : ℕ) (w : List ℕ) (p : ℕ) where
   -- ---- the wanted bytes from column c to column `to`
 
   pub wantedBytes-next : (c to : ℕ) → c < to → wantedBytes W w p c (to - c) ≡ shown W w p c ∷ wantedBytes W w p (c + 1) (to - (c + 1))
   unfolding wantedBytes
-  wantedBytes-next c to h = rw (left c to h) (rw add-one)
+  wantedBytes-next c to h = rw (one-fewer c to h) (rw add-one)
 
   pub wantedBytes-end : (c to : ℕ) → to ≤ c → wantedBytes W w p c (to - c) ≡ []
   unfolding wantedBytes
@@ -94,12 +88,12 @@ module _ (W : ℕ) (w : List ℕ) (p : ℕ) where
   module _ (d : ℕ → Bool) (sent : Bool) (next c : ℕ) where
     -- an equal column sends nothing
     pub walk-same : c < W → d c ≡ false → walk W w p d sent next c (W - c) ≡ walk W w p d sent next (c + 1) (W - (c + 1))
-    walk-same h e = rw (left c W h) (step-same d sent next c (W - (c + 1)) e ∙ rw add-one)
+    walk-same h e = rw (one-fewer c W h) (step-same d sent next c (W - (c + 1)) e ∙ rw add-one)
 
     -- a differing column sends its piece
     pub walk-differs : c < W → d c ≡ true
         → walk W w p d sent next c (W - c) ≡ piece W w p sent next c ++ walk W w p d true (c + 1) (c + 1) (W - (c + 1))
-    walk-differs h e = rw (left c W h) (step-differs d sent next c (W - (c + 1)) e ∙ rw add-one)
+    walk-differs h e = rw (one-fewer c W h) (step-differs d sent next c (W - (c + 1)) e ∙ rw add-one)
 
     pub walk-end : W ≤ c → walk W w p d sent next c (W - c) ≡ []
     unfolding walk
@@ -182,7 +176,7 @@ module _ (W : ℕ) (r w : List ℕ) where
   pub walkPages-next : (p : ℕ) → p < 9
       → walkPages W r w p (9 - p) ≡ walk W w p (differs W r w p) false 0 0 W ++ walkPages W r w (p + 1) (9 - (p + 1))
   unfolding walkPages
-  walkPages-next p h = rw (left p 9 h) (rw add-one)
+  walkPages-next p h = rw (one-fewer p 9 h) (rw add-one)
 
   pub walkPages-end : (p : ℕ) → 9 ≤ p → walkPages W r w p (9 - p) ≡ []
   unfolding walkPages
@@ -205,7 +199,7 @@ module _ (W : ℕ) (w : List ℕ) where
   pub wholePages-next : (p : ℕ) → p < 9 → emit none (wholePages W w p (9 - p))
       ≡ (pageCycle p ∷ (columnBytes 0 ++ map dataCycle (wantedBytes W w p 0 W))) ++ emit none (wholePages W w (p + 1) (9 - (p + 1)))
   unfolding wholePages wholePage emitBy
-  wholePages-next p h = rw (left p 9 h) (rw (
+  wholePages-next p h = rw (one-fewer p 9 h) (rw (
     address-off none (wholePage W w p) (under-off none p tt),
     whole-again (some (endOf (wholePage W w p))) (suc p) (9 - (p + 1)) (omega arith),
     add-one,

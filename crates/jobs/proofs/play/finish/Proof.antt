@@ -11,8 +11,8 @@ finish-spec =
     (tie.spec
     (λ c κs. search needs)
     (λ c. search needs)
-    (λ c. ending-short _ _ _ (c .before .before .before .before .put-end .ensures) (c .if1 .taken))
+    (λ c. ending-short _ _ _ (search needs) (c .if1 .taken))
     (λ c κs. search needs)
     (λ c κs. search needs)
     (λ c. search needs)
-    (λ c. ending-long _ _ _ (c .before .before .before .before .before .before .before .before .before .put-end .ensures) (c .before .before .before .before .before .if1 .left) (c .before .before .before .before .wanted-length .ensures) (c .before .before .put-update .ensures)))
+    (λ c. ending-long _ _ _ (search needs) (search needs) (search needs) (c .before .before .put-update .ensures)))

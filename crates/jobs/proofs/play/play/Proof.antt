@@ -13,5 +13,5 @@ play-spec =
     (λ c κs. search needs)
     (λ c κs. search needs)
     (λ c. search needs)
-    (λ c. play-fits _ _ (c .before .before .before .before .before .before .put-text .ensures) (c .before .before .before .before .if1 .taken) (c .before .before .put-text2 .ensures))
+    (λ c. play-fits _ _ (c .before .before .before .before .before .before .put-text .ensures) (search needs) (c .before .before .put-text2 .ensures))
     (λ c. play-short _ _ (c .before .before .put-text .ensures) (c .if1 .left)))

@@ -14,10 +14,10 @@ put-text-spec =
     (tie.spec
     (λ c κs. search needs)
     (λ c. search needs)
-    (λ c κs. header-holds _ (c .before .before .before .before .read-header .ensures) (c .before .before .job .given .1))
+    (λ c κs. header-holds _ (search needs) (c .before .before .job .given .1))
     (λ c. search needs)
     (λ c κs. search needs)
     (λ c. search needs)
-    (λ c. text-good _ (c .before .before .before .before .before .before .before .read-header .ensures) (c .before .before .before .before .before .job .given .1) (c .before .before .put-good .ensures))
+    (λ c. text-good _ (search needs) (c .before .before .before .before .before .job .given .1) (c .before .before .put-good .ensures))
     (λ c. search needs)
-    (λ c. text-bad _ (c .before .before .before .before .before .before .before .read-header .ensures) (c .before .before .before .before .before .number .given .1) (put-most (omega arith) (c .before .before .put-bad .ensures))))
+    (λ c. text-bad _ (c .before .before .before .before .before .before .before .read-header .ensures) (search needs) (put-most (omega arith) (c .before .before .put-bad .ensures))))

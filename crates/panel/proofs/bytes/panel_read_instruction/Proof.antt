@@ -1,8 +1,7 @@
 -- `panel::bytes::panel_read_instruction` meets its contract: what is read goes out by its number and value.
 -- Assumes nothing.
-use mathlib.Core.Path.{ap}
+use mathlib.Core.Path.{refl}
 use borrow.Author.Needs.{needs}
-use Rattle.instructions.specs.Read.{toldReading}
 use Rattle.paper.proofs.Answering.{gives, refuses}
 use Rattle.panel.proofs.bytes.panel_read_instruction.Statement.{statement}
 use Rattle.panel.proofs.bytes.panel_read_instruction.Tie as tie
@@ -16,5 +15,5 @@ panel-read-instruction-spec =
     (λ c κs. search needs)
     (λ c κs. search needs)
     (λ c. search needs)
-    (λ c. rw (c .before .number-of .ensures, c .value-of .ensures) (gives _ _ (c .before .before .before .before .before .read-on .ensures) (ap toldReading (c .before .before .before .instruction .given .1))))
-    (λ c. refuses _ _ (c .before .before .before .read-on .ensures) (ap toldReading (c .before .refusal .given .1))))
+    (λ c. rw (c .before .number-of .ensures, c .value-of .ensures) (gives (c .before .before .before .instruction .given .1) refl (search needs)))
+    (λ c. refuses (c .before .refusal .given .1) refl (search needs)))

@@ -1,8 +1,7 @@
 -- `panel::bytes::panel_write_instruction` meets its contract: what is written of what is named goes into the byte.
 -- Assumes nothing.
-use mathlib.Core.Path.{ap}
+use mathlib.Core.Path.{refl}
 use borrow.Author.Needs.{needs}
-use Rattle.instructions.specs.Write.{toldWriting}
 use Rattle.paper.proofs.Answering.{gives, refuses}
 use Rattle.panel.proofs.bytes.panel_write_instruction.Statement.{statement}
 use Rattle.panel.proofs.bytes.panel_write_instruction.Tie as tie
@@ -17,7 +16,7 @@ panel-write-instruction-spec =
     (λ c. search needs)
     (λ c.
     let s = c .before .before .before in
-    gives _ _ (rw (s .before .named-by .ensures) at (s .write-named .ensures)) (ap toldWriting (c .before .written .given .1)))
+    gives (c .before .written .given .1) refl (rw (s .before .named-by .ensures) at (s .write-named .ensures)))
     (λ c.
     let s = c .before .before .before in
-    refuses _ _ (rw (s .before .named-by .ensures) at (s .write-named .ensures)) (ap toldWriting (c .before .refusal .given .1))))
+    refuses (c .before .refusal .given .1) refl (rw (s .before .named-by .ensures) at (s .write-named .ensures))))

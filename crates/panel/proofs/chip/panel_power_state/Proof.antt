@@ -1,8 +1,7 @@
 -- `panel::chip::panel_power_state` meets its contract: the glass's answer, told.
 -- Assumes nothing.
-use mathlib.Core.Path.{ap}
+use mathlib.Core.Path.{refl}
 use borrow.Author.Needs.{needs}
-use Rattle.glass.specs.Power.{toldPower}
 use Rattle.paper.proofs.Answering.{gives, refuses}
 use Rattle.panel.proofs.chip.panel_power_state.Statement.{statement}
 use Rattle.panel.proofs.chip.panel_power_state.Tie as tie
@@ -15,5 +14,5 @@ panel-power-state-spec =
     (λ c. search needs)
     (λ c κs. search needs)
     (λ c. search needs)
-    (λ c. rw (c .power-byte .ensures) (gives _ _ (c .before .before .before .before .power-on .ensures) (ap toldPower (c .before .before .power .given .1))))
-    (λ c. refuses _ _ (c .before .before .before .power-on .ensures) (ap toldPower (c .before .number .given .1))))
+    (λ c. rw (c .power-byte .ensures) (gives (c .before .before .power .given .1) refl (search needs)))
+    (λ c. refuses (c .before .number .given .1) refl (search needs)))

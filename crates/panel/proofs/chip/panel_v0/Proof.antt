@@ -1,8 +1,7 @@
 -- `panel::chip::panel_v0` meets its contract: the glass's answer, told.
 -- Assumes nothing.
-use mathlib.Core.Path.{ap}
+use mathlib.Core.Path.{refl}
 use borrow.Author.Needs.{needs}
-use Rattle.glass.specs.Voltage.{toldVoltage}
 use Rattle.paper.proofs.Answering.{gives, refuses}
 use Rattle.panel.proofs.chip.panel_v0.Statement.{statement}
 use Rattle.panel.proofs.chip.panel_v0.Tie as tie
@@ -14,5 +13,5 @@ panel-v0-spec =
     (λ c κs. search needs)
     (λ c. search needs)
     (λ c. search needs)
-    (λ c. gives _ _ (c .before .before .before .v0 .ensures) (ap toldVoltage (c .before .fifteenths .given .1)))
-    (λ c. refuses _ _ (c .before .before .before .v0 .ensures) (ap toldVoltage (c .before .number .given .1))))
+    (λ c. gives (c .before .fifteenths .given .1) refl (search needs))
+    (λ c. refuses (c .before .number .given .1) refl (search needs)))

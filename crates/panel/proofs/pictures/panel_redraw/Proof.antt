@@ -1,8 +1,7 @@
 -- `panel::pictures::panel_redraw` meets its contract: the planner's answer, told.
 -- Assumes nothing.
-use mathlib.Core.Path.{ap}
+use mathlib.Core.Path.{refl}
 use borrow.Author.Needs.{needs}
-use Rattle.planner.specs.Count.{toldCount}
 use Rattle.paper.proofs.Answering.{gives, refuses}
 use Rattle.panel.proofs.pictures.panel_redraw.Statement.{statement}
 use Rattle.panel.proofs.pictures.panel_redraw.Tie as tie
@@ -16,7 +15,7 @@ panel-redraw-spec =
     (λ c. search needs)
     (λ c. search needs)
     (λ c. search needs)
-    (λ c. gives _ _ (c .before .before .before .before .before .before .before .redraw .ensures) (ap toldCount (c .before .bytes .given .1)))
+    (λ c. gives (c .before .bytes .given .1) refl (search needs))
     (λ c. search needs)
     (λ c. search needs)
-    (λ c. refuses _ _ (c .before .before .before .before .before .before .before .redraw .ensures) (ap toldCount (c .before .number .given .1))))
+    (λ c. refuses (c .before .number .given .1) refl (search needs)))

@@ -1,8 +1,7 @@
 -- `panel::pictures::panel_update` meets its contract: the planner's answer, told.
 -- Assumes nothing.
-use mathlib.Core.Path.{ap}
+use mathlib.Core.Path.{refl}
 use borrow.Author.Needs.{needs}
-use Rattle.planner.specs.Count.{toldCount}
 use Rattle.paper.proofs.Answering.{gives, refuses}
 use Rattle.panel.proofs.pictures.panel_update.Statement.{statement}
 use Rattle.panel.proofs.pictures.panel_update.Tie as tie
@@ -16,7 +15,7 @@ panel-update-spec =
     (λ c. search needs)
     (λ c. search needs)
     (λ c. search needs)
-    (λ c. gives _ _ (c .before .before .before .before .before .before .before .update .ensures) (ap toldCount (c .before .bytes .given .1)))
+    (λ c. gives (c .before .bytes .given .1) refl (search needs))
     (λ c. search needs)
     (λ c. search needs)
-    (λ c. refuses _ _ (c .before .before .before .before .before .before .before .update .ensures) (ap toldCount (c .before .number .given .1))))
+    (λ c. refuses (c .before .number .given .1) refl (search needs)))

@@ -1,8 +1,7 @@
 -- `panel::pictures::panel_update_length` meets its contract: the planner's answer, told.
 -- Assumes nothing.
-use mathlib.Core.Path.{ap}
+use mathlib.Core.Path.{refl}
 use borrow.Author.Needs.{needs}
-use Rattle.planner.specs.Count.{toldCount}
 use Rattle.paper.proofs.Answering.{gives, refuses}
 use Rattle.panel.proofs.pictures.panel_update_length.Statement.{statement}
 use Rattle.panel.proofs.pictures.panel_update_length.Tie as tie
@@ -14,5 +13,5 @@ panel-update-length-spec =
     (λ c κs. search needs)
     (λ c. search needs)
     (λ c. search needs)
-    (λ c. gives _ _ (c .before .before .before .update-length .ensures) (ap toldCount (c .before .bytes .given .1)))
-    (λ c. refuses _ _ (c .before .before .before .update-length .ensures) (ap toldCount (c .before .number .given .1))))
+    (λ c. gives (c .before .bytes .given .1) refl (search needs))
+    (λ c. refuses (c .before .number .given .1) refl (search needs)))

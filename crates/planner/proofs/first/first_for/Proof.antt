@@ -16,7 +16,7 @@ first-for-spec =
     (λ c.
     let e = tested (c .before .before .misfit .ensures) (c .before .misfit2 .ensures) (c .if1 .taken) in
     record { tells = rw e })
-    (λ c κs. both-fit _ _ _ (c .before .before .before .before .before .pre) (tested (c .before .before .misfit .ensures) (c .before .misfit2 .ensures) (c .if1 .left)))
+    (λ c κs. both-fit _ _ _ (search needs) (tested (c .before .before .misfit .ensures) (c .before .misfit2 .ensures) (c .if1 .left)))
     (λ c.
     let e = tested (c .before .before .before .misfit .ensures) (c .before .before .misfit2 .ensures) (c .before .if1 .left) in
     record { tells = rw e (c .scan .ensures) }))

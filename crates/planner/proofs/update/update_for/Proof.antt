@@ -13,7 +13,7 @@ update-for-spec =
     (λ c κs. search needs)
     (λ c κs. search needs)
     (λ c. update-misfit _ _ _ _ _ (tested (c .before .before .misfit .ensures) (c .before .misfit2 .ensures) (c .if1 .taken)))
-    (λ c κs. both-fit _ _ _ (c .before .before .before .before .before .before .before .pre) (tested (c .before .before .misfit .ensures) (c .before .misfit2 .ensures) (c .if1 .left)))
+    (λ c κs. both-fit _ _ _ (search needs) (tested (c .before .before .misfit .ensures) (c .before .misfit2 .ensures) (c .if1 .left)))
     (λ c.
     let t = c .before in
     let fit = tested (t .before .before .before .misfit .ensures) (t .before .before .misfit2 .ensures) (t .before .if1 .left) in

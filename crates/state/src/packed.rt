@@ -141,6 +141,8 @@ pub fn pack(registers: Registers) -> State
 pub fn unpack(state: &State) -> Registers
     ensures { λ r. ⌜ r ≡ unpacked (now (state .entry)) ⌝ }
 {
+    let mode = modify_of(state[MODIFY_READ], state[SAVED_COLUMN]);
+    let awaited = awaited_of(state[AWAITED]);
     Registers {
         page: state[PAGE],
         column: Column(state[COLUMN]),
@@ -158,7 +160,7 @@ pub fn unpack(state: &State) -> Registers
         indicator_value: state[INDICATOR_VALUE],
         holder: state[HOLDER],
         pin_low: state[PIN_LOW] == 1,
-        modify_read: modify_of(state[MODIFY_READ], state[SAVED_COLUMN]),
-        awaited: awaited_of(state[AWAITED]),
+        modify_read: mode,
+        awaited,
     }
 }

@@ -15,13 +15,13 @@ use Rattle.paper.specs.Refusal.{wrongSize, outOfRange, shortOutput}
 use Rattle.paper.specs.Told.{given, refused}
 use Rattle.paper.specs.Sheet.{Sensible, sheet0713}
 use Rattle.paper.specs.declared.sheet.Sheet.{Sheet}
+use Rattle.paper.specs.Answers.{leftBy}
 use Rattle.paper.proofs.Sensible.{sensible0713}
 use Rattle.paper.proofs.Telling.{apart, answerOf, some-one, none-some, given-one, not-given}
 use Rattle.paper.proofs.Answering.{if-split, if-both, number-number, refused-number, Silent, nothing-given}
 use Rattle.paper.proofs.Cases.{split}
 use Rattle.paper.proofs.Either.{either, or-true}
 use Rattle.paper.proofs.Exactly.{Exactly, then, both, same-number, here, past, nowhere}
-use Rattle.paper.specs.Answers.{leftBy}
 use Rattle.registers.specs.Registers.{outside, Ranged}
 use Rattle.registers.specs.declared.Registers.{Registers}
 use Rattle.registers.proofs.InRange.{ranged, ranges}

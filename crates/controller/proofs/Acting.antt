@@ -10,8 +10,8 @@ use lib.Dec.{ltb, eqb}
 use borrow.Author.Tests.{eq-eqb}
 use Rattle.paper.specs.Told.{given}
 use Rattle.paper.specs.Sheet.{Sensible}
-use Rattle.instructions.specs.Read.{readOf}
 use Rattle.paper.specs.declared.sheet.Sheet.{Sheet}
+use Rattle.instructions.specs.Read.{readOf}
 use Rattle.instructions.specs.declared.instruction.Instruction.{Instruction}
 use Rattle.instructions.proofs.Fits.{read-fits}
 use Rattle.registers.specs.Registers.{Ranged, outside}

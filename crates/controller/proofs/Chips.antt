@@ -8,14 +8,14 @@ use native.Mathlib.Omega.{arith}
 use native.Mathlib.Numerals.{add-one}
 use Rattle.paper.specs.Told.{given}
 use Rattle.paper.specs.Sheet.{Sensible, sheet0713}
+use Rattle.paper.specs.declared.sheet.Sheet.{Sheet}
+use Rattle.paper.proofs.Sensible.{sensible0713}
 use Rattle.instructions.specs.Write.{writeOf}
 use Rattle.instructions.specs.Read.{readOf, awaitedFor}
-use Rattle.paper.specs.declared.sheet.Sheet.{Sheet}
 use Rattle.instructions.specs.declared.instruction.Awaited.{Awaited}
 use Rattle.instructions.specs.declared.instruction.Awaited.the-variants as awaited
 use Rattle.instructions.specs.declared.instruction.Instruction.{Instruction}
 use Rattle.instructions.specs.declared.instruction.Instruction.the-variants.{ColumnLow, ColumnHigh, ContrastNext, ContrastValue, IndicatorOff, IndicatorValue, Page, Nop}
-use Rattle.paper.proofs.Sensible.{sensible0713}
 use Rattle.instructions.proofs.Fields.{field-given}
 use Rattle.instructions.proofs.ReadBack.{read-back}
 use Rattle.registers.specs.Registers.{column, withContrast, withIndicator, withIndicatorValue, withAwaited}

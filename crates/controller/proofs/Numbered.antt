@@ -9,10 +9,10 @@ use native.Mathlib.Omega.{arith}
 use lib.ListN.{length}
 use lib.Dec.{eqb}
 use borrow.Author.Tests.{eqb-false}
-use Rattle.paper.proofs.Cases.{chosen}
 use Rattle.paper.specs.Sheet.{Sensible}
-use Rattle.instructions.specs.Read.{readOf}
 use Rattle.paper.specs.declared.sheet.Sheet.{Sheet}
+use Rattle.paper.proofs.Cases.{chosen}
+use Rattle.instructions.specs.Read.{readOf}
 use Rattle.instructions.specs.declared.instruction.Instruction.{Instruction}
 use Rattle.instructions.proofs.Fits.{Proper, read-proper}
 use Rattle.registers.specs.Registers.{outside}

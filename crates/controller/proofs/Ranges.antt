@@ -11,10 +11,10 @@ use lib.Dec.{ltb, eqb}
 use borrow.Author.Tests.{ltb-true, eqb-true, not-false}
 use Rattle.paper.specs.Refusal.{wrongSize}
 use Rattle.paper.specs.Sheet.{Sensible}
+use Rattle.paper.specs.declared.sheet.Sheet.{Sheet}
 use Rattle.paper.proofs.Cases.{chosen}
 use Rattle.paper.proofs.Exactly.{past}
 use Rattle.instructions.specs.Read.{readOf}
-use Rattle.paper.specs.declared.sheet.Sheet.{Sheet}
 use Rattle.instructions.specs.declared.instruction.Instruction.{Instruction}
 use Rattle.instructions.specs.declared.instruction.Instruction.the-variants.{ColumnLow, ColumnHigh, Resistor, Power, StartLine, ContrastNext, ContrastValue, Adc, Bias, Entire, Reverse, IndicatorOff, IndicatorOn, IndicatorValue, Display, Page, Shl, ModifyReadOn, ModifyReadOff, Reset, Nop}
 use Rattle.instructions.proofs.Fields.{in-field}

@@ -12,10 +12,10 @@ use native.Mathlib.Numerals.{add-one}
 use lib.ListN.{length}
 use lib.Dec.{eqb}
 use borrow.Author.Tests.{eqb-true}
-use Rattle.paper.proofs.Cases.{chosen}
 use Rattle.paper.specs.Sheet.{Sensible}
-use Rattle.instructions.specs.Read.{readOf}
 use Rattle.paper.specs.declared.sheet.Sheet.{Sheet}
+use Rattle.paper.proofs.Cases.{chosen}
+use Rattle.instructions.specs.Read.{readOf}
 use Rattle.instructions.specs.declared.instruction.Instruction.{Instruction}
 use Rattle.instructions.specs.declared.instruction.Instruction.the-variants.{ColumnLow, ColumnHigh, Page, ModifyReadOn, ModifyReadOff}
 use Rattle.instructions.proofs.Fields.{field-given}

@@ -12,12 +12,12 @@ use lib.Dec.{ltb}
 use borrow.Author.Tests.{lt-ltb, ltb-true}
 use Rattle.paper.specs.Told.{given}
 use Rattle.paper.specs.Sheet.{Sensible}
-use Rattle.instructions.specs.Read.{readOf}
 use Rattle.paper.specs.declared.sheet.Sheet.{Sheet}
-use Rattle.instructions.specs.declared.instruction.Awaited.the-variants as awaited
-use Rattle.instructions.specs.declared.instruction.Instruction.the-variants.{IndicatorOn, IndicatorValue, Reset}
 use Rattle.paper.proofs.Either.{either, or-true}
 use Rattle.paper.proofs.Exactly.{Exactly}
+use Rattle.instructions.specs.Read.{readOf}
+use Rattle.instructions.specs.declared.instruction.Awaited.the-variants as awaited
+use Rattle.instructions.specs.declared.instruction.Instruction.the-variants.{IndicatorOn, IndicatorValue, Reset}
 use Rattle.registers.specs.Registers.{outside, withIndicator, withIndicatorValue, withAwaited, withPinLow, start}
 use Rattle.registers.specs.declared.Registers.{Registers}
 use Rattle.controller.specs.Execute.{executed}

@@ -9,8 +9,8 @@ use lib.ListN.{length}
 use lib.Dec.{ltb, eqb}
 use Rattle.paper.specs.Refusal.{wrongSize, outOfRange, pinLow, unassigned, wrongCycle}
 use Rattle.paper.specs.Told.{Told}
-use Rattle.instructions.specs.Read.{readOf, assigned, nothingAwaited}
 use Rattle.paper.specs.declared.sheet.Sheet.{Sheet}
+use Rattle.instructions.specs.Read.{readOf, assigned, nothingAwaited}
 use Rattle.instructions.specs.declared.instruction.Instruction.{Instruction}
 use Rattle.registers.specs.Registers.{column, withColumn, withHolder, withPinLow, start, outside}
 use Rattle.registers.specs.declared.ModifyRead.{ModifyRead}

@@ -9,11 +9,11 @@ use lib.Dec.{eqb}
 use borrow.Author.Tests.{eqb-true, not-false}
 use Rattle.paper.specs.Refusal.{wrongSize}
 use Rattle.paper.specs.declared.sheet.Sheet.{Sheet}
+use Rattle.paper.proofs.Either.{neither}
+use Rattle.paper.proofs.Exactly.{past}
 use Rattle.registers.specs.declared.Registers.{Registers}
 use Rattle.controller.proofs.Cells.{place}
 use Rattle.glass.specs.Frame.{refusal}
-use Rattle.paper.proofs.Either.{neither}
-use Rattle.paper.proofs.Exactly.{past}
 
 -- a line is on one of 9 pages
 pub line-place : (w line c : ℕ) → line ≤ 64 → c < w → w * (line / 8) + c < 9 * w

@@ -15,6 +15,9 @@ use Rattle.paper.specs.Refusal.{wrongSize, outOfRange}
 use Rattle.paper.specs.Told.{Told, given, refused}
 use Rattle.paper.specs.declared.sheet.Sheet.{Sheet}
 use Rattle.paper.proofs.Telling.{apart, answerOf, not-given}
+use Rattle.paper.proofs.Answering.{refused-number}
+use Rattle.paper.proofs.Either.{either, or-true}
+use Rattle.paper.proofs.Exactly.{Exactly}
 use Rattle.registers.specs.Registers.{outside}
 use Rattle.registers.specs.declared.Registers.{Registers}
 use Rattle.glass.specs.Frame.{frameOf, refusal, toldShown, IsShown}
@@ -26,9 +29,6 @@ use Rattle.glass.specs.declared.power.Powered.{Powered}
 use Rattle.glass.specs.declared.power.Powered.the-variants as powered
 use Rattle.glass.specs.declared.voltage.Voltage.{Voltage}
 use Rattle.glass.specs.declared.voltage.Voltage.the-variants as voltage
-use Rattle.paper.proofs.Answering.{refused-number}
-use Rattle.paper.proofs.Either.{either, or-true}
-use Rattle.paper.proofs.Exactly.{Exactly}
 use Rattle.glass.proofs.Places.{right-sizes}
 
 -- ---- an answer that is refused with one number where a test holds, and else given

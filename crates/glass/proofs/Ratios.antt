@@ -9,8 +9,8 @@ use lib.ListN.{getD}
 use lib.Dec.{ltb, leb, leb→le}
 use borrow.Author.Tests.{ltb-false}
 use Rattle.paper.proofs.Every.{at}
-use Rattle.glass.specs.Voltage.{ratios}
 use Rattle.paper.proofs.Either.{neither}
+use Rattle.glass.specs.Voltage.{ratios}
 
 few : ℕ → Bool
 few k = leb (getD ratios k 0) 648

@@ -11,16 +11,16 @@ use native.Mathlib.Omega.{arith}
 use lib.ListN.{length, getD, replicate}
 use lib.Dec.{ltb, eqb}
 use borrow.Author.Tests.{lt-ltb, le-ltb, ne-eqb}
-use Rattle.paper.proofs.Cases.{chosen}
 use Rattle.paper.specs.Sheet.{Sensible, sheet0713}
 use Rattle.paper.specs.declared.sheet.Sheet.{Sheet}
+use Rattle.paper.proofs.Cases.{chosen}
+use Rattle.paper.proofs.Listed.{at, length-listed, listed-same}
 use Rattle.registers.specs.Registers.{withStartLine, withAdc, withShl, withReverse}
 use Rattle.registers.specs.declared.Registers.{Registers}
 use Rattle.controller.proofs.Cells.{place}
 use Rattle.glass.specs.Bit.{bitOf, sumOf}
 use Rattle.glass.specs.Dot.{lineOf, columnOf, dotOf, dotAt, litOf}
 use Rattle.glass.specs.Frame.{stripByte, frameOf}
-use Rattle.paper.proofs.Listed.{at, length-listed, listed-same}
 use Rattle.glass.proofs.Bits.{bit-is, sum-same}
 
 module _ (c : Sheet) (r : Registers) (m : List ℕ) where

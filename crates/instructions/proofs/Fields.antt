@@ -8,8 +8,8 @@ use lib.Dec.{ltb}
 use borrow.Author.Tests.{lt-ltb, le-ltb, ltb-true}
 use Rattle.paper.specs.Refusal.{outsideField}
 use Rattle.paper.specs.Told.{given, refused}
-use Rattle.instructions.specs.Write.{fieldOf}
 use Rattle.paper.proofs.Telling.{given-one}
+use Rattle.instructions.specs.Write.{fieldOf}
 
 -- a value inside its field is written as the base and the value
 pub field-given : (base count v : ℕ) → v < count → fieldOf base count v ≡ given (base + v)

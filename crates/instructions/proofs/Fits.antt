@@ -7,13 +7,13 @@ use mathlib.Core.Option.{Option, none, some}
 use native.Mathlib.Omega.{arith}
 use lib.Dec.{eqb, ltb, leb}
 use borrow.Author.Tests.{ltb-true, ltb-false}
-use Rattle.paper.proofs.Cases.{chosen}
 use Rattle.paper.specs.Refusal.{unassigned}
 use Rattle.paper.specs.Told.{Told, given}
 use Rattle.paper.specs.Sheet.{Sensible}
+use Rattle.paper.specs.declared.sheet.Sheet.{Sheet}
+use Rattle.paper.proofs.Cases.{chosen}
 use Rattle.instructions.specs.Write.{fieldOf, flagOf, writeOf}
 use Rattle.instructions.specs.Read.{classOf, roomIn, readBy, readFirst, readOf}
-use Rattle.paper.specs.declared.sheet.Sheet.{Sheet}
 use Rattle.instructions.specs.declared.instruction.Awaited.{Awaited}
 use Rattle.instructions.specs.declared.instruction.Awaited.the-variants as awaited
 use Rattle.instructions.specs.declared.instruction.Instruction.{Instruction}

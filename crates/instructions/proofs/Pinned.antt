@@ -10,15 +10,15 @@ use lib.Dec.{T, eqb, eqb→eq}
 use Rattle.paper.specs.Refusal.{unassigned}
 use Rattle.paper.specs.Told.{Told, given, refused}
 use Rattle.paper.specs.Sheet.{Sensible, sheet0713}
-use Rattle.instructions.specs.Write.{fieldOf, flagOf, writeOf}
-use Rattle.instructions.specs.Read.{classOf, roomIn, readBy, readFirst, readOf, assigned, plain, again, nothingAwaited, awaitedFor}
 use Rattle.paper.specs.declared.sheet.Sheet.{Sheet}
-use Rattle.instructions.specs.declared.instruction.Awaited.{Awaited}
-use Rattle.instructions.specs.declared.instruction.Awaited.the-variants as awaited
-use Rattle.instructions.specs.declared.instruction.Instruction.{Instruction}
 use Rattle.paper.proofs.Every.{every, at, left, right}
 use Rattle.paper.proofs.Sensible.{sensible0713}
 use Rattle.paper.proofs.Telling.{told-is}
+use Rattle.instructions.specs.Write.{fieldOf, flagOf, writeOf}
+use Rattle.instructions.specs.Read.{classOf, roomIn, readBy, readFirst, readOf, assigned, plain, again, nothingAwaited, awaitedFor}
+use Rattle.instructions.specs.declared.instruction.Awaited.{Awaited}
+use Rattle.instructions.specs.declared.instruction.Awaited.the-variants as awaited
+use Rattle.instructions.specs.declared.instruction.Instruction.{Instruction}
 use Rattle.instructions.proofs.Fields.{field-given}
 use Rattle.instructions.proofs.ReadBack.{read-back}
 

@@ -8,14 +8,14 @@ use lib.Dec.{T}
 use borrow.Author.Tests.{lt-ltb}
 use Rattle.paper.specs.Told.{given}
 use Rattle.paper.specs.Sheet.{Sensible}
+use Rattle.paper.specs.declared.sheet.Sheet.{Sheet}
+use Rattle.paper.proofs.Telling.{given-one}
 use Rattle.instructions.specs.Write.{flagOf, writeOf}
 use Rattle.instructions.specs.Read.{classOf, roomIn, readBy, readFirst, readOf, awaitedFor}
-use Rattle.paper.specs.declared.sheet.Sheet.{Sheet}
 use Rattle.instructions.specs.declared.instruction.Instruction.{Instruction}
 use Rattle.instructions.specs.declared.instruction.Instruction.the-variants.{ColumnLow, ColumnHigh, Resistor, Power, StartLine, ContrastNext, ContrastValue, Adc, Bias, Entire, Reverse, IndicatorOff, IndicatorOn, IndicatorValue, Display, Page, Shl, ModifyReadOn, ModifyReadOff, Reset, Nop}
 use Rattle.instructions.proofs.Classes.{alike, of-class}
 use Rattle.instructions.proofs.Fields.{field-is}
-use Rattle.paper.proofs.Telling.{given-one}
 
 -- the counter has room for a high part inside its field
 pub room-kept : (highs h : ℕ) → h < highs → roomIn highs h ≡ h

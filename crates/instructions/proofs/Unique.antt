@@ -10,9 +10,13 @@ use native.Mathlib.Omega.{arith}
 use lib.Dec.{T, eqb, eqb→eq}
 use Rattle.paper.specs.Refusal.{unassigned, outsideField}
 use Rattle.paper.specs.Told.{Told, given, refused}
+use Rattle.paper.specs.declared.sheet.Sheet.{Sheet}
+use Rattle.paper.proofs.Cases.{less}
+use Rattle.paper.proofs.Exactly.{Exactly, then}
+use Rattle.paper.proofs.Every.{at, left, right}
+use Rattle.paper.proofs.Telling.{apart, answerOf, refused-one, not-given, told-is}
 use Rattle.instructions.specs.Write.{fieldOf, flagOf, writeOf, OutsideField, toldWriting, IsWritten}
 use Rattle.instructions.specs.Read.{classOf, readBy, readFirst, readOf, toldReading, assigned, IsRead}
-use Rattle.paper.specs.declared.sheet.Sheet.{Sheet}
 use Rattle.instructions.specs.declared.instruction.Awaited.{Awaited}
 use Rattle.instructions.specs.declared.instruction.Awaited.the-variants as awaited
 use Rattle.instructions.specs.declared.instruction.Instruction.{Instruction}
@@ -21,12 +25,8 @@ use Rattle.instructions.specs.declared.read.Reading.{Reading}
 use Rattle.instructions.specs.declared.read.Reading.the-variants.{ReadAs, Unread}
 use Rattle.instructions.specs.declared.write.Writing.{Writing}
 use Rattle.instructions.specs.declared.write.Writing.the-variants.{WrittenAs, Unwritten}
-use Rattle.paper.proofs.Cases.{less}
-use Rattle.paper.proofs.Exactly.{Exactly, then}
 use Rattle.instructions.proofs.Fields.{field-given, field-refused}
-use Rattle.paper.proofs.Every.{at, left, right}
 use Rattle.instructions.proofs.Pinned.{whole}
-use Rattle.paper.proofs.Telling.{apart, answerOf, refused-one, not-given, told-is}
 
 -- ---- the reader
 

@@ -7,8 +7,8 @@ use mathlib.Core.Option.{Option, none, some}
 use lib.Dec.{ltb, leb, eqb}
 use Rattle.paper.specs.Refusal.{unassigned}
 use Rattle.paper.specs.Told.{Told, given, refused}
-use Rattle.instructions.specs.Write.{writeOf}
 use Rattle.paper.specs.declared.sheet.Sheet.{Sheet}
+use Rattle.instructions.specs.Write.{writeOf}
 use Rattle.instructions.specs.declared.instruction.Awaited.{Awaited}
 use Rattle.instructions.specs.declared.instruction.Awaited.the-variants as awaited
 use Rattle.instructions.specs.declared.instruction.Instruction.{Instruction}

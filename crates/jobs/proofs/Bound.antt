@@ -12,10 +12,10 @@ use lib.Dec.{ltb, eqb}
 use lib.ListN.{length, length-append}
 use Rattle.paper.specs.Sheet.{sheet0713}
 use Rattle.paper.proofs.Sensible.{sensible0713}
+use Rattle.paper.proofs.Cases.{split}
 use Rattle.registers.specs.declared.Registers.{Registers}
 use Rattle.controller.specs.Cycle.{Outcome}
 use Rattle.controller.specs.State.{State, step}
-use Rattle.paper.proofs.Cases.{split}
 use Rattle.streams.specs.Length.{updateLength}
 use Rattle.jobs.specs.Header.{wordAt, cycleAt, picture2}
 use Rattle.jobs.specs.Text.{hex, decimalUpTo, decimal, field, flag, modifyFlag, readLine, refusalLine, badLine, endLine, updateLine}

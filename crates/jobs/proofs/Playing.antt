@@ -13,6 +13,7 @@ use borrow.Author.Tests.{lt-ltb, le-ltb}
 use Rattle.paper.specs.Refusal.{shortOutput}
 use Rattle.paper.specs.Told.{given}
 use Rattle.paper.specs.Sheet.{sheet0713}
+use Rattle.paper.proofs.Left.{one-fewer, none-left}
 use Rattle.registers.specs.declared.Registers.{Registers}
 use Rattle.controller.specs.State.{State, state, poweredUp, step}
 use Rattle.controller.specs.Turn.{Turn, readFlag, byteRead, IsTurn}
@@ -22,7 +23,6 @@ use Rattle.planner.specs.Count.{toldCount, IsLength}
 use Rattle.planner.specs.declared.count.Count.{Count}
 use Rattle.planner.specs.declared.count.Count.the-variants as count
 use Rattle.planner.proofs.Exactly.{right-size}
-use Rattle.paper.proofs.Left.{one-fewer, none-left}
 use Rattle.jobs.specs.Header.{cycleAt, picture2, IsHeader}
 use Rattle.jobs.specs.Text.{badLine, endLine, updateLine}
 use Rattle.jobs.specs.Memory.{startMemory}

@@ -14,10 +14,10 @@ use lib.ListN.{length, drop}
 use Rattle.paper.specs.Refusal.{shortOutput, shortJob, wrongHeader, wrongCycle}
 use Rattle.paper.specs.Told.{refused}
 use Rattle.paper.proofs.Telling.{apart, answerOf, not-given}
-use Rattle.controller.specs.Cycle.{malformed}
 use Rattle.paper.proofs.Cases.{split, less}
 use Rattle.paper.proofs.Either.{or-true}
 use Rattle.paper.proofs.Exactly.{Exactly, then, both, same-number, here, past, nowhere}
+use Rattle.controller.specs.Cycle.{malformed}
 use Rattle.jobs.specs.Header.{wordAt, cycleAt, wrongCycles, headerOf, toldHeader, IsHeader}
 use Rattle.jobs.specs.Play.{textOf, longest, toldPlayed, IsPlayed}
 use Rattle.jobs.specs.declared.header.Header.{Header}

@@ -10,10 +10,10 @@ use lib.ListN.{length}
 use Rattle.paper.specs.Refusal.{shortJob, wrongHeader, wrongCycle}
 use Rattle.paper.specs.Told.{given, refused}
 use Rattle.paper.proofs.Telling.{given-one, not-given}
-use Rattle.controller.specs.Cycle.{malformed}
 use Rattle.paper.proofs.Cases.{split, less}
 use Rattle.paper.proofs.Either.{neither}
 use Rattle.paper.proofs.Left.{one-fewer, none-left}
+use Rattle.controller.specs.Cycle.{malformed}
 use Rattle.jobs.specs.Header.{wordAt, cycleAt, wrongSizes, wrongCycles, headerOf, toldHeader, IsHeader}
 use Rattle.jobs.specs.Output.{Holds}
 use Rattle.jobs.specs.declared.header.Job.{Job}

@@ -14,6 +14,12 @@ use borrow.Author.Tests.{ltb-false, le-ltb}
 use Rattle.paper.specs.Refusal.{wrongSize, outOfRange, outsideField}
 use Rattle.paper.specs.Told.{refused}
 use Rattle.paper.specs.Sheet.{sheet0713}
+use Rattle.paper.specs.Answers.{leftBy}
+use Rattle.paper.proofs.Sensible.{sensible0713}
+use Rattle.paper.proofs.Cases.{split, less}
+use Rattle.paper.proofs.Exactly.{Exactly, then, both, same-number, past, only}
+use Rattle.paper.proofs.Either.{or-left, or-right}
+use Rattle.paper.proofs.Answering.{answers-one, if-split, if-both, test-number, number-number}
 use Rattle.instructions.specs.Read.{toldReading, assigned, nothingAwaited, IsRead}
 use Rattle.instructions.specs.Write.{toldWriting, OutsideField}
 use Rattle.instructions.specs.declared.instruction.Awaited.{Awaited}
@@ -23,7 +29,6 @@ use Rattle.instructions.specs.declared.read.Reading.{Reading}
 use Rattle.instructions.specs.declared.read.Reading.the-variants as reading
 use Rattle.instructions.specs.declared.write.Writing.{Writing}
 use Rattle.instructions.proofs.Unique.{read-one, written-one, read-some, unread-4, number-written-6}
-use Rattle.paper.proofs.Sensible.{sensible0713}
 use Rattle.instructions.proofs.Fits.{Fits}
 use Rattle.registers.specs.Registers.{outside}
 use Rattle.registers.specs.declared.Registers.{Registers}
@@ -37,20 +42,15 @@ use Rattle.glass.specs.Power.{toldPower}
 use Rattle.glass.specs.Voltage.{toldVoltage, v0Of}
 use Rattle.glass.proofs.Promised.{power-one, voltage-one, shown-one}
 use Rattle.streams.specs.Length.{updateLength}
-use Rattle.paper.proofs.Cases.{split, less}
 use Rattle.planner.specs.Pictures.{misfit}
 use Rattle.planner.specs.First.{toldFound}
 use Rattle.planner.specs.Count.{toldCount}
 use Rattle.planner.specs.Sent.{updateRefusal, redrawRefusal, IsUpdate, IsRedraw}
 use Rattle.planner.specs.declared.count.Count.{Count}
 use Rattle.planner.specs.declared.count.Count.the-variants as count
-use Rattle.paper.proofs.Exactly.{Exactly, then, both, same-number, past, only}
 use Rattle.planner.proofs.Exactly.{RightSize, ShortOutput, misfit-yes, misfit-no, wrong-size, right-size}
-use Rattle.paper.proofs.Either.{or-left, or-right}
 use Rattle.planner.proofs.Scanning.{first-given}
 use Rattle.planner.proofs.Promised.{first-one, first-1, length-one, update-one, update-1, update-5, update-only, redraw-one, redraw-1, redraw-6, redraw-5, redraw-only}
-use Rattle.paper.specs.Answers.{leftBy}
-use Rattle.paper.proofs.Answering.{answers-one, if-split, if-both, test-number, number-number}
 use Rattle.state.specs.Packed.{packed, unpacked, awaitedOf}
 use Rattle.state.specs.Unfit.{unfit, unfitNumber}
 use Rattle.panel.specs.Chip.{PowerUpOut, CycleOut, FrameOut, PowerOut, VoltageOut}

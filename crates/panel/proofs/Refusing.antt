@@ -6,14 +6,14 @@ use mathlib.Core.Path.{_≡_, _∙_, refl, ap}
 use mathlib.Core.Logic.{_≢_, inl, inr}
 use mathlib.Core.List.{List}
 use Rattle.paper.specs.Sheet.{sheet0713}
+use Rattle.paper.proofs.Sensible.{sensible0713}
+use Rattle.paper.proofs.Answering.{if-split, Silent, refusal-leaves}
 use Rattle.instructions.specs.Read.{toldReading}
 use Rattle.instructions.specs.Write.{toldWriting}
 use Rattle.instructions.specs.declared.read.Reading.{Reading}
 use Rattle.instructions.specs.declared.read.Reading.the-variants as reading
 use Rattle.instructions.specs.declared.write.Writing.{Writing}
 use Rattle.instructions.specs.declared.write.Writing.the-variants as writing
-use Rattle.paper.proofs.Sensible.{sensible0713}
-use Rattle.paper.proofs.Answering.{if-split, Silent, refusal-leaves}
 use Rattle.controller.specs.Cycle.{outcome}
 use Rattle.controller.specs.declared.cycle.Answer.{Answer}
 use Rattle.controller.specs.declared.cycle.Answer.the-variants as cycle

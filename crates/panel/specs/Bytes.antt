@@ -7,6 +7,7 @@ use mathlib.Core.Option.{Option, none, some}
 use lib.Dec.{ltb, leb, eqb}
 use Rattle.paper.specs.Refusal.{outOfRange, outsideField}
 use Rattle.paper.specs.Sheet.{sheet0713}
+use Rattle.paper.specs.Answers.{Through, If, same}
 use Rattle.instructions.specs.Read.{toldReading, IsRead}
 use Rattle.instructions.specs.Write.{toldWriting, IsWritten}
 use Rattle.instructions.specs.declared.instruction.Instruction.{Instruction}
@@ -15,7 +16,6 @@ use Rattle.instructions.specs.declared.read.Reading.{Reading}
 use Rattle.instructions.specs.declared.read.Reading.the-variants as reading
 use Rattle.instructions.specs.declared.write.Writing.{Writing}
 use Rattle.instructions.specs.declared.write.Writing.the-variants as writing
-use Rattle.paper.specs.Answers.{Through, If, same}
 use Rattle.state.specs.Packed.{flagByte, awaitedOf}
 use Rattle.panel.specs.declared.bytes.Named.{Named}
 use Rattle.panel.specs.declared.bytes.Named.the-variants.{Known, Unknown}

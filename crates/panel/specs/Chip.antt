@@ -6,6 +6,7 @@ use mathlib.Core.Bool.{_||_}
 use mathlib.Core.List.{List}
 use Rattle.paper.specs.Refusal.{outOfRange}
 use Rattle.paper.specs.Sheet.{sheet0713}
+use Rattle.paper.specs.Answers.{Through, If, leftBy, same}
 use Rattle.registers.specs.Registers.{PoweredUp}
 use Rattle.registers.specs.declared.Registers.{Registers}
 use Rattle.controller.specs.Cycle.{outcome, Cycled}
@@ -21,7 +22,6 @@ use Rattle.glass.specs.declared.power.PowerState.the-variants.{Normal, Sleep, S
 use Rattle.glass.specs.declared.power.Powered.{Powered}
 use Rattle.glass.specs.declared.power.Powered.the-variants as powered
 use Rattle.planner.specs.Pictures.{misfit}
-use Rattle.paper.specs.Answers.{Through, If, leftBy, same}
 use Rattle.state.specs.Packed.{packed, unpacked}
 use Rattle.state.specs.Unfit.{unfit, unfitNumber}
 

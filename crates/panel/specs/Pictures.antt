@@ -3,11 +3,11 @@
 use Prim.Native.Nat.{ℕ}
 use mathlib.Core.Option.{Option, none, some}
 use mathlib.Core.List.{List}
+use Rattle.paper.specs.Answers.{Through, same}
 use Rattle.streams.specs.Stretch.{Place}
 use Rattle.planner.specs.First.{toldFound, IsFirst}
 use Rattle.planner.specs.Count.{toldCount, IsLength}
 use Rattle.planner.specs.Sent.{IsUpdate, IsRedraw}
-use Rattle.paper.specs.Answers.{Through, same}
 
 -- the three out-parameters of the first difference: found, page and column. Where there is none, page and column stay
 abbrev pub placeOut : ℕ × ℕ → Option Place → ℕ × ℕ × ℕ

@@ -14,27 +14,27 @@ use lib.ListN.{length, length-append, length-map}
 use lib.Dec.{ltb, eqb}
 use borrow.Author.Tests.{ltb-true, ltb-false, lt-ltb, le-ltb, eqb-true}
 use Rattle.paper.specs.Told.{given}
+use Rattle.paper.specs.Over.{over}
 use Rattle.paper.proofs.Telling.{apart, answerOf, some-one, none-some}
 use Rattle.paper.proofs.Answering.{refused-number}
+use Rattle.paper.proofs.Cases.{split}
+use Rattle.paper.proofs.Exactly.{Exactly, then, both, same-number, here, past, nowhere, among}
 use Rattle.controller.specs.Run.{BusCycle}
 use Rattle.streams.specs.Picture.{shown, Same}
 use Rattle.streams.specs.Stretch.{Place}
 use Rattle.streams.specs.Update.{updateStream}
 use Rattle.streams.specs.Length.{updateLength}
 use Rattle.streams.specs.Redraw.{redrawStream}
-use Rattle.paper.proofs.Cases.{split}
 use Rattle.streams.proofs.Pictures.{differs-true, differs-false, same-nowhere, nowhere-same}
 use Rattle.streams.proofs.Length.{update-length, update-most, redraw-length}
 use Rattle.planner.specs.Pictures.{misfit}
 use Rattle.planner.specs.First.{firstFrom, firstDifference, toldFound, IsFirst}
 use Rattle.planner.specs.Count.{toldCount, IsLength}
-use Rattle.paper.specs.Over.{over}
 use Rattle.planner.specs.Sent.{byteOf, kindOf, tooShort, Sent, updateRefusal, redrawRefusal, IsUpdate, IsRedraw}
 use Rattle.planner.specs.declared.count.Count.{Count}
 use Rattle.planner.specs.declared.count.Count.the-variants as count
 use Rattle.planner.specs.declared.first.Found.{Found}
 use Rattle.planner.specs.declared.first.Found.the-variants as found
-use Rattle.paper.proofs.Exactly.{Exactly, then, both, same-number, here, past, nowhere, among}
 use Rattle.planner.proofs.Exactly.{WrongSize, RightSize, ShortOutput, misfit-yes, misfit-no, wrong-size, right-size, short-output}
 use Rattle.planner.proofs.Scanning.{from-at, none-at, from-none, first-given}
 

@@ -8,11 +8,11 @@ use mathlib.Core.Option.{Option, none, some}
 use mathlib.Core.List.{List}
 use native.Mathlib.Numerals.{add-one}
 use native.Mathlib.Omega.{arith}
-use Rattle.streams.specs.Picture.{differs}
-use Rattle.streams.specs.Stretch.{Place}
 use Rattle.paper.specs.Told.{given}
 use Rattle.paper.proofs.Cases.{split, less}
 use Rattle.paper.proofs.Left.{one-fewer}
+use Rattle.streams.specs.Picture.{differs}
+use Rattle.streams.specs.Stretch.{Place}
 use Rattle.planner.specs.Pictures.{misfit}
 use Rattle.planner.specs.First.{firstOn, firstFrom, firstDifference}
 

@@ -12,6 +12,7 @@ use lib.ListN.{length}
 use lib.Dec.{ltb, eqb}
 use borrow.Author.Tests.{lt-ltb, le-ltb, ltb-false}
 use Rattle.paper.specs.Told.{given}
+use Rattle.paper.proofs.Either.{or-left, or-right}
 use Rattle.controller.specs.Run.{BusCycle}
 use Rattle.streams.specs.Stretch.{emit}
 use Rattle.streams.specs.Update.{updateStream}
@@ -24,7 +25,6 @@ use Rattle.planner.specs.Pictures.{misfit}
 use Rattle.planner.specs.Sent.{byteOf, kindOf, tooShort, Sent, updateRefusal, redrawRefusal, IsUpdate, IsRedraw}
 use Rattle.planner.specs.Output.{shorter, Room, Wrote}
 use Rattle.planner.specs.declared.count.Count.the-variants.{Bytes, Refused}
-use Rattle.paper.proofs.Either.{or-left, or-right}
 use Rattle.planner.proofs.Writing.{put-over}
 
 -- ---- any stream

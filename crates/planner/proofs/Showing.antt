@@ -8,9 +8,9 @@ use mathlib.Core.List.{List}
 use lib.ListN.{length}
 use lib.Dec.{eqb}
 use borrow.Author.Tests.{eqb-true, eqb-false, not-false}
-use Rattle.streams.specs.Picture.{shown, differs}
 use Rattle.paper.proofs.Cases.{split}
 use Rattle.paper.proofs.Either.{or-left, or-right}
+use Rattle.streams.specs.Picture.{shown, differs}
 use Rattle.streams.proofs.Pictures.{differs-yes, differs-no}
 use Rattle.planner.specs.Pictures.{misfit, Pictures}
 use Rattle.planner.specs.Output.{Fits}

@@ -10,6 +10,7 @@ use lib.Dec.{eqb}
 use lib.ListN.{length, getD}
 use Rattle.paper.specs.Refusal.{wrongSize}
 use Rattle.paper.specs.Told.{given, refused}
+use Rattle.paper.specs.Over.{over}
 use Rattle.paper.proofs.Telling.{given-one, not-given}
 use Rattle.controller.specs.Run.{BusCycle}
 use Rattle.streams.specs.Length.{updateLength}
@@ -17,7 +18,6 @@ use Rattle.streams.proofs.Length.{update-length}
 use Rattle.streams.proofs.Walking.{redraw-walk}
 use Rattle.planner.specs.Pictures.{misfit}
 use Rattle.planner.specs.Count.{IsLength}
-use Rattle.paper.specs.Over.{over}
 use Rattle.planner.specs.Sent.{byteOf, Sent, IsUpdate, IsRedraw}
 use Rattle.planner.specs.declared.count.Count.the-variants.{Bytes, Refused}
 use Rattle.planner.proofs.Exactly.{RightSize}

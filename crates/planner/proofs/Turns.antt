@@ -5,12 +5,12 @@ use mathlib.Core.Path.{_≡_, ap}
 use mathlib.Core.Bool.{Bool, true, false, cond, _||_}
 use mathlib.Core.List.{List, [], _∷_, _++_, map}
 use native.Mathlib.Omega.{arith}
+use Rattle.paper.proofs.Cases.{split}
 use Rattle.controller.specs.Chip.{pageCycle, dataCycle}
 use Rattle.streams.specs.Stretch.{columnBytes}
 use Rattle.streams.specs.Picture.{shown, differs}
 use Rattle.streams.specs.Update.{wantedBytes}
 use Rattle.streams.specs.Walk.{lead, walk}
-use Rattle.paper.proofs.Cases.{split}
 use Rattle.streams.proofs.Walking.{wantedBytes-next, wantedBytes-end, piece-is, walk-same, walk-differs}
 use Rattle.planner.specs.Output.{Room, Wrote, columnPiece, pageGroup}
 use Rattle.planner.proofs.Writing.{room-first, room-second, wrote-both, wrote-none}

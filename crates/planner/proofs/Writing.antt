@@ -9,8 +9,8 @@ use native.Mathlib.Numerals.{add-one}
 use native.Mathlib.Omega.{arith}
 use lib.ListN.{length, take, drop, set, length-append, length-drop, length-map, take-append-drop}
 use lib.Seq.{length-take-le, set-split, take-at, drop-append-add, drop-drop}
-use Rattle.controller.specs.Run.{BusCycle}
 use Rattle.paper.specs.Over.{over}
+use Rattle.controller.specs.Run.{BusCycle}
 use Rattle.planner.specs.Sent.{byteOf, kindOf}
 use Rattle.planner.specs.Output.{put, Room, Wrote, twoCycles}
 

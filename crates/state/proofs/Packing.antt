@@ -9,15 +9,15 @@ use native.Mathlib.Omega.{arith}
 use lib.ListN.{length, getD}
 use lib.Dec.{ltb, eqb}
 use borrow.Author.Tests.{ltb-false}
+use Rattle.paper.specs.Listed.{listed}
+use Rattle.paper.proofs.Listed.{whole}
+use Rattle.paper.proofs.Cases.{less}
+use Rattle.paper.proofs.Either.{or-left, or-right}
 use Rattle.instructions.specs.declared.instruction.Awaited.{Awaited}
 use Rattle.instructions.specs.declared.instruction.Awaited.the-variants as awaited
 use Rattle.registers.specs.declared.ModifyRead.{ModifyRead}
 use Rattle.registers.specs.declared.ModifyRead.the-variants.{Off, On}
 use Rattle.registers.specs.declared.Registers.{Registers}
-use Rattle.paper.specs.Listed.{listed}
-use Rattle.paper.proofs.Listed.{whole}
-use Rattle.paper.proofs.Cases.{less}
-use Rattle.paper.proofs.Either.{or-left, or-right}
 use Rattle.state.specs.Packed.{flagByte, modifyByte, savedByte, modifyOf, awaitedByte, awaitedOf, packed, unpacked}
 use Rattle.state.specs.Unfit.{above, oddFlag, spareUsed, unfit}
 

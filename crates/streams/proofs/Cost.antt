@@ -10,10 +10,10 @@ use mathlib.Core.List.{List, [], _∷_}
 use native.Mathlib.Omega.{arith}
 use lib.Dec.{eqb}
 use borrow.Author.Tests.{eqb-true, eqb-false}
+use Rattle.paper.proofs.Cases.{split, less}
 use Rattle.streams.specs.Update.{Run, joins, join, joinIf, runs}
 use Rattle.streams.specs.Length.{differing, gaps, gapCost, pageLength}
 use Rattle.streams.specs.Tally.{toPay}
-use Rattle.paper.proofs.Cases.{split, less}
 use Rattle.streams.proofs.Sums.{sum, sum-le, sum-add, sum-zero}
 use Rattle.streams.proofs.Runs.{joins-near, joins-far, Fits, runs-fit, inRun, in-before, in-inside, in-after, in-le, hits}
 

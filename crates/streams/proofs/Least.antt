@@ -12,11 +12,11 @@ use native.Mathlib.Omega.{arith}
 use lib.ListN.{length}
 use lib.Dec.{eqb}
 use borrow.Author.Tests.{eqb-true, eqb-false, ne-eqb}
+use Rattle.paper.proofs.Cases.{split, less}
 use Rattle.streams.specs.Picture.{Same, differs}
 use Rattle.streams.specs.Stretch.{Stretch, Place, endOf, OfKind, onIt, address, emit}
 use Rattle.streams.specs.Length.{lengthFrom, updateLength}
 use Rattle.streams.specs.Paint.{paint}
-use Rattle.paper.proofs.Cases.{split, less}
 use Rattle.streams.proofs.Sums.{sum, sum-add, sum-zero, sum-point}
 use Rattle.streams.proofs.Pictures.{same-at, differs-true}
 use Rattle.streams.proofs.Runs.{hits}

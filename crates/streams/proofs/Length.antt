@@ -12,12 +12,12 @@ use lib.ListN.{length, length-append}
 use lib.Seq.{take-all}
 use lib.Dec.{eqb}
 use borrow.Author.Tests.{eqb-true}
+use Rattle.paper.proofs.Cases.{split, less}
 use Rattle.streams.specs.Picture.{Same, differs}
 use Rattle.streams.specs.Stretch.{Place, endOf, onIt, emit, after}
 use Rattle.streams.specs.Update.{Run, runs, stretchOf, pageWork, workFrom, update, updateStream}
 use Rattle.streams.specs.Length.{differing, pageLength, lengthFrom, updateLength}
 use Rattle.streams.specs.Redraw.{wholePage, wholePages, redraw, redrawStream}
-use Rattle.paper.proofs.Cases.{split, less}
 use Rattle.streams.proofs.Pictures.{same-nowhere, nowhere-same}
 use Rattle.streams.proofs.Cost.{weight, pageLength-most, runs-cost}
 use Rattle.streams.proofs.Emitting.{address-on, address-off, on-same, Under, under-off, under-next, emit-nil, emit-append, cons-length}

@@ -11,6 +11,7 @@ use native.Mathlib.Omega.{arith}
 use lib.ListN.{length, getD}
 use lib.Dec.{eqb}
 use borrow.Author.Tests.{eqb-true, eqb-false, eq-eqb}
+use Rattle.paper.proofs.Cases.{split, less}
 use Rattle.controller.specs.Memory.{cellOf, stored}
 use Rattle.controller.proofs.Cells.{place-one, stored-length, stored-other, stored-same}
 use Rattle.streams.specs.Picture.{shown, Same, differs}
@@ -18,7 +19,6 @@ use Rattle.streams.specs.Stretch.{Stretch, OfKind}
 use Rattle.streams.specs.Update.{Run, runs, wantedBytes, stretchOf, pageWork, workFrom, update}
 use Rattle.streams.specs.Redraw.{wholePage, wholePages, redraw}
 use Rattle.streams.specs.Paint.{storeAll, paint}
-use Rattle.paper.proofs.Cases.{split, less}
 use Rattle.streams.proofs.Pictures.{shown-is, shown-again, same-at, same-by, differs-false}
 use Rattle.streams.proofs.Runs.{Fits, runs-fit, inRun, in-before, in-inside, in-after, hits, runs-cover}
 

@@ -12,6 +12,7 @@ use mathlib.Core.List.{List, [], _∷_, _++_, append-nil}
 use native.Mathlib.Omega.{arith}
 use lib.ListN.{getD}
 use Rattle.paper.specs.Listed.{listed}
+use Rattle.paper.proofs.Cases.{split, less}
 use Rattle.controller.proofs.Cells.{cell-icons, cell-whole}
 use Rattle.streams.specs.Picture.{shown, differs}
 use Rattle.streams.specs.Stretch.{onIt, address, emitBy}
@@ -19,7 +20,6 @@ use Rattle.streams.specs.Update.{Run, joins, join, joinIf, runs, wantedB
 use Rattle.streams.specs.Redraw.{wholePage, wholePages, redraw, redrawStream}
 use Rattle.streams.specs.Walk.{walkPages}
 use Rattle.streams.specs.Shape.{Equal, Edge, Tidy, groups, pageGroup, pageCells, iconCells}
-use Rattle.paper.proofs.Cases.{split, less}
 use Rattle.streams.proofs.Runs.{joins-far}
 use Rattle.streams.proofs.Walking.{page-walk, update-walk}
 

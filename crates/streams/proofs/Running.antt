@@ -11,6 +11,7 @@ use native.Mathlib.Nat.{add-zero}
 use native.Mathlib.Omega.{arith}
 use lib.ListN.{length, take, replicate, length-append, replicate-append-replicate}
 use borrow.Author.Tests.{eqb-true}
+use Rattle.paper.proofs.Cases.{split}
 use Rattle.controller.specs.Memory.{stored}
 use Rattle.controller.specs.Run.{BusCycle, runBy, numbersBy}
 use Rattle.controller.proofs.Cells.{stored-length}
@@ -18,7 +19,6 @@ use Rattle.controller.specs.Chip.{pageCycle, highCycle, lowCycle, dataCycle, Vi
 use Rattle.streams.specs.Stretch.{Stretch, Place, endOf, OfKind, onIt, columnBytes, address, emitBy, emit}
 use Rattle.streams.specs.Paint.{storeAll, paint, lastOf, drawn, drawnAll}
 use Rattle.streams.specs.Demand.{Leaves}
-use Rattle.paper.proofs.Cases.{split}
 use Rattle.streams.proofs.Emitting.{address-on, address-off}
 
 module _ {W : ℕ} (C : Chip W) where

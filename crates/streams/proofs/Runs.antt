@@ -7,8 +7,8 @@ use mathlib.Core.Bool.{Bool, true, false}
 use mathlib.Core.List.{List, [], _∷_}
 use native.Mathlib.Omega.{arith}
 use borrow.Author.Tests.{leb-true, leb-false, le-leb, lt-leb}
-use Rattle.streams.specs.Update.{Run, joins, join, joinIf, runs}
 use Rattle.paper.proofs.Cases.{split, less}
+use Rattle.streams.specs.Update.{Run, joins, join, joinIf, runs}
 
 -- ---- at most 2 equal columns between
 

@@ -11,6 +11,7 @@ use native.Mathlib.Omega.{arith}
 use lib.ListN.{length, take, replicate}
 use lib.Dec.{eqb}
 use borrow.Author.Tests.{eqb-true, eqb-false}
+use Rattle.paper.proofs.Cases.{split}
 use Rattle.controller.specs.Memory.{cellOf, stored}
 use Rattle.controller.specs.Run.{BusCycle, runBy, numbersBy}
 use Rattle.controller.specs.Chip.{Chip}
@@ -20,7 +21,6 @@ use Rattle.streams.specs.Stretch.{Stretch, OfKind, address, emit}
 use Rattle.streams.specs.Update.{wantedBytes, update, updateStream}
 use Rattle.streams.specs.Length.{updateLength}
 use Rattle.streams.specs.Demand.{Recorded, Leaves, Updated, Cut}
-use Rattle.paper.proofs.Cases.{split}
 use Rattle.streams.proofs.Pictures.{shown-is, shown-again, recorded-between}
 use Rattle.streams.proofs.Painting.{Wanted, update-kind, update-wanted, update-paints, paint-length}
 use Rattle.streams.proofs.Least.{least}

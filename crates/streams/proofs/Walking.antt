@@ -11,6 +11,8 @@ use native.Mathlib.Nat.{zero-add, add-zero, suc-add}
 use native.Mathlib.Numerals.{add-one}
 use native.Mathlib.Omega.{arith}
 use lib.ListN.{length, length-map}
+use Rattle.paper.proofs.Cases.{split}
+use Rattle.paper.proofs.Left.{one-fewer, none-left}
 use Rattle.controller.specs.Run.{BusCycle}
 use Rattle.controller.specs.Chip.{pageCycle, dataCycle}
 use Rattle.streams.specs.Picture.{shown, differs}
@@ -18,8 +20,6 @@ use Rattle.streams.specs.Stretch.{Place, endOf, columnBytes, emitBy, emi
 use Rattle.streams.specs.Update.{Run, joins, join, joinIf, runs, wantedBytes, stretchOf, pageWork, workFrom, update, updateStream}
 use Rattle.streams.specs.Redraw.{wholePage, wholePages, redraw, opening, redrawStream}
 use Rattle.streams.specs.Walk.{lead, piece, pieceIf, walk, walkPages}
-use Rattle.paper.proofs.Cases.{split}
-use Rattle.paper.proofs.Left.{one-fewer, none-left}
 use Rattle.streams.proofs.Runs.{joins-near, joins-far, joins-yes, joins-no, Fits, runs-fit}
 use Rattle.streams.proofs.Emitting.{address-on, address-off, on-same, Under, under-off, emit-append, emit-place}
 use Rattle.streams.proofs.Painting.{wantedBytes-length}

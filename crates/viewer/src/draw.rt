@@ -6,8 +6,8 @@ ghost use mathlib.Core.Path.{_≡_};
 ghost use Prim.Native.Nat.{_+_, _≤_, _<_};
 ghost use lib.ListN.{length};
 ghost use Rattle.paper.specs.Sheet.{sheet0713};
-ghost use Rattle.registers.specs.Registers.{Ranged};
 ghost use Rattle.paper.specs.Listed.{listed};
+ghost use Rattle.registers.specs.Registers.{Ranged};
 ghost use Rattle.glass.specs.Frame.{frameOf};
 ghost use Rattle.viewer.specs.Drawn.{glyph};
 

@@ -1,8 +1,8 @@
 -- `controller::memory::advance` meets its contract.
 -- Assumes nothing.
 use borrow.Author.Needs.{needs}
-use Rattle.controller.specs.Memory.{advanced}
 use Rattle.paper.proofs.Tests.{tests}
+use Rattle.controller.specs.Memory.{advanced}
 use Rattle.controller.proofs.memory.advance.Statement.{statement}
 use Rattle.controller.proofs.memory.advance.Tie as tie
 

@@ -1,7 +1,7 @@
 -- `controller::memory::cell` meets its contract.
 -- Assumes nothing.
-use Rattle.controller.specs.Memory.{cellOf}
 use Rattle.paper.proofs.Tests.{tests}
+use Rattle.controller.specs.Memory.{cellOf}
 use Rattle.controller.proofs.memory.cell.Statement.{statement}
 use Rattle.controller.proofs.memory.cell.Tie as tie
 

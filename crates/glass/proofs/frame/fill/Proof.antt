@@ -6,8 +6,8 @@ use native.Mathlib.Omega.{arith}
 use lib.ListN.{length, getD, length-set}
 use borrow.Author.Needs.{needs}
 use borrow.Author.Count.{below-none}
-use Rattle.glass.specs.Frame.{stripByte, frameOf}
 use Rattle.paper.proofs.Listed.{more, whole}
+use Rattle.glass.specs.Frame.{stripByte, frameOf}
 use Rattle.glass.proofs.Places.{strip, segment}
 use Rattle.glass.proofs.frame.fill.Statement.{statement}
 use Rattle.glass.proofs.frame.fill.Tie as tie

@@ -4,9 +4,9 @@ use Prim.Native.Nat.{_≤_}
 use mathlib.Core.Path.{sym, subst}
 use lib.Dec.{lit≤}
 use borrow.Author.Needs.{needs}
-use Rattle.paper.proofs.Sensible.{sensible0713}
 use Rattle.paper.specs.Sheet.{Sensible}
 use Rattle.paper.specs.declared.sheet.Sheet.{Sheet}
+use Rattle.paper.proofs.Sensible.{sensible0713}
 use Rattle.glass.proofs.frame.frame.Statement.{statement}
 use Rattle.glass.proofs.frame.frame.Tie as tie
 

@@ -1,8 +1,8 @@
 -- `instructions::read::read_by` meets its contract: each arm of the match is a row of the definition.
 -- Assumes nothing.
 use borrow.Author.Needs.{needs}
-use Rattle.instructions.specs.Read.{readBy}
 use Rattle.paper.proofs.Tests.{tests}
+use Rattle.instructions.specs.Read.{readBy}
 use Rattle.instructions.proofs.read.read_by.Statement.{statement}
 use Rattle.instructions.proofs.read.read_by.Tie as tie
 

@@ -1,7 +1,7 @@
 -- `instructions::read::room_in` meets its contract.
 -- Assumes nothing.
-use Rattle.instructions.specs.Read.{roomIn}
 use Rattle.paper.proofs.Tests.{tests}
+use Rattle.instructions.specs.Read.{roomIn}
 use Rattle.instructions.proofs.read.room_in.Statement.{statement}
 use Rattle.instructions.proofs.read.room_in.Tie as tie
 

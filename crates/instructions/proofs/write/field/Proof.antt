@@ -1,8 +1,8 @@
 -- `instructions::write::field` meets its contract.
 -- Assumes nothing.
 use borrow.Author.Needs.{needs}
-use Rattle.instructions.specs.Write.{fieldOf}
 use Rattle.paper.proofs.Tests.{tests}
+use Rattle.instructions.specs.Write.{fieldOf}
 use Rattle.instructions.proofs.write.field.Statement.{statement}
 use Rattle.instructions.proofs.write.field.Tie as tie
 

@@ -15,18 +15,22 @@ use Rattle.jobs.specs.Text.{field, newline, flag, modifyFlag, readLine, 
 use Rattle.jobs.specs.Play.{lineOf, answerAt}
 use Rattle.jobs.specs.declared.header.Job.{Job}
 
--- How far a text reaches as its parts count themselves, each number with the 20 digits that 64 bits can have: so many bytes for the
--- line of a cycle, for all of them, for the last lines, and in all. A text is shorter (`longest`); these only keep every place in
--- the output a number that can be reckoned with.
+-- How far a text reaches as its parts count themselves: a number counts as 21 bytes, a space and the 20 digits that 64 bits can have.
+-- A text is shorter (`longest`); these only keep every place in the output a number that can be reckoned with.
+
+-- the line of a cycle: a letter, two numbers, the end of the line
 abbrev pub lineMost : ℕ
 lineMost = 44
 
+-- the lines of all cycles of a job
 abbrev pub linesMost : ℕ
 linesMost = 16000 * lineMost
 
+-- the last lines: `end` and ten numbers, `update` and one
 abbrev pub endingMost : ℕ
 endingMost = 242
 
+-- all of it
 abbrev pub textMost : ℕ
 textMost = linesMost + endingMost
 

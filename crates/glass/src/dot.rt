@@ -43,19 +43,27 @@ fn cell_bit(width: usize, memory: &[u8], line: usize, column: Column) -> bool
     bit_of(memory[at], line % 8)
 }
 
-// A dot is dark if the display is off; else lit if entire display is on; else its bit, inverted if reverse is on.
+// Whether a dot is lit, by the steps of the KS0713 data sheet (002): off, then entire display, then reverse, each under its heading.
 fn dot(on: bool, entire: bool, reverse: bool, bit: bool) -> bool
     ensures { λ d. ⌜ d ≡ dotOf on entire reverse bit ⌝ }
 {
-    if !on {
+    // DISPLAY ON/OFF: "Turns the display ON or OFF". That off comes before entire display stands elsewhere, under POWER SAVE
+    // (COMPOUND INSTRUCTION), figure 16: [ Display OFF ], [ Entire Display ON ], and then [ All COM/SEG outputs : VSS ].
+    let off = !on;
+    if off {
         return false;
     }
+    // ENTIRE DISPLAY ON / OFF: "Forces all LCD points to be turned on regardless of the contents of the display data RAM";
+    // it "has priority over the reverse display ON / OFF instruction".
     if entire {
         return true;
     }
+    // NORMAL / REVERSE DISPLAY: "Reverses the display status on the LCD panel".
+    // REV 1 (Reverse): with a RAM bit of 1 the "LCD pixel is not illuminated", with one of 0 it "is illuminated".
     if reverse {
         return !bit;
     }
+    // REV 0 (Normal): with a RAM bit of 1 the "LCD pixel is illuminated", with one of 0 it "is not illuminated".
     bit
 }
 

@@ -171,11 +171,11 @@ uint8_t model_read_instruction(uint8_t awaited, uint8_t byte, uint8_t *number, u
     } else if (byte <= 0x2Fu) {
         n = I_POWER;
         v = (uint8_t)(byte - 0x28u);
-    } else if (byte >= 0x40u && byte <= 0x7Fu) {
+    } else if (byte >= 0x40u && byte <= 0x7Fu) { /* @read_start_line */
         /* "40-7F | start line" */
         n = I_START_LINE;
         v = (uint8_t)(byte - 0x40u);
-    } else if (byte == 0x81u) {
+    } else if (byte == 0x81u) { /* @read_contrast_next */
         /* "81 | next instruction byte mod 64 is contrast" */
         n = I_CONTRAST_NEXT;
         v = 0;

@@ -1,4 +1,5 @@
 pub mod Classes
+pub mod Table
 pub mod Fields
 pub mod ReadBack
 pub mod Pinned

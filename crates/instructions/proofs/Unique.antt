@@ -1,5 +1,5 @@
--- What reader and writer promise fixes their answers: what is told of an answer tells all answers apart, since it has an inverse.
--- And each number is given exactly when its line of document 01's table holds.
+-- What reader, writer and `class_of` promise fixes their answers: what is told of an answer tells all answers apart, since it has an
+-- inverse. And each number is given exactly when its line of document 01's table holds.
 -- Assumes nothing.
 use Prim.Native.Nat.{ℕ, _+_, _≤_, _<_}
 use mathlib.Core.Path.{_≡_, _∙_, refl, ap, sym, subst}
@@ -8,6 +8,7 @@ use mathlib.Core.Bool.{Bool, true, false, cond, not, _&&_}
 use mathlib.Core.Option.{Option, none, some}
 use native.Mathlib.Omega.{arith}
 use lib.Dec.{T, eqb, eqb→eq}
+use borrow.Author.Tests.{eqb-true, eq-eqb, not-false}
 use Rattle.paper.specs.Refusal.{unassigned, outsideField}
 use Rattle.paper.specs.Told.{Told, given, refused}
 use Rattle.paper.specs.declared.sheet.Sheet.{Sheet}
@@ -17,6 +18,7 @@ use Rattle.paper.proofs.Every.{at, left, right}
 use Rattle.paper.proofs.Telling.{apart, answerOf, refused-one, not-given, told-is}
 use Rattle.instructions.specs.Write.{fieldOf, flagOf, writeOf, OutsideField, toldWriting, IsWritten}
 use Rattle.instructions.specs.Read.{classOf, readBy, readFirst, readOf, toldReading, assigned, IsRead}
+use Rattle.instructions.specs.Class.{IsClass}
 use Rattle.instructions.specs.declared.instruction.Awaited.{Awaited}
 use Rattle.instructions.specs.declared.instruction.Awaited.the-variants as awaited
 use Rattle.instructions.specs.declared.instruction.Instruction.{Instruction}
@@ -51,6 +53,18 @@ written-told = apart toldWriting (answerOf WrittenAs Unwritten) writing-back
 -- two writings that the promise admits are equal
 pub written-one : {k : Sheet} {i : Instruction} {w v : Writing} → IsWritten k i w → IsWritten k i v → w ≡ v
 written-one {w = w} {v = v} f g = written-told w v (f .tells ∙ sym (g .tells))
+
+-- ---- the class
+
+-- two classes that the promise admits are equal
+pub class-one : {b r s : ℕ} → IsClass b r → IsClass b s → r ≡ s
+class-one f g = f .tells ∙ sym (g .tells)
+
+-- the class is 0 exactly if the byte is unassigned
+pub class-0 : {b r : ℕ} → IsClass b r → Exactly (r ≡ 0) (assigned b ≡ false)
+unfolding assigned
+class-0 {b} f =
+    (λ e. ap not (eq-eqb (classOf b) 0 (sym (f .tells) ∙ e)), λ e. f .tells ∙ eqb-true (classOf b) 0 (not-false (eqb (classOf b) 0) e))
 
 -- ---- number 4: an instruction byte unassigned and nothing awaited, and only then
 

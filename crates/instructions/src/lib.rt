@@ -1,4 +1,5 @@
-// The instruction bytes: what a byte is read as, and what an instruction is written as.
+// The instruction bytes: the class of a byte, what it is read as, and what an instruction is written as.
+pub mod class;
 pub mod instruction;
 pub mod read;
 pub mod write;

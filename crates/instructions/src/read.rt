@@ -1,7 +1,8 @@
 // The reader: one byte, with what is awaited.
 ghost use mathlib.Core.Path.{_≡_};
 ghost use Rattle.paper.specs.Sheet.{sheet0713};
-ghost use Rattle.instructions.specs.Read.{classOf, roomIn, readBy, toldReading, IsRead};
+ghost use Rattle.instructions.specs.Read.{roomIn, readBy, toldReading, IsRead};
+use crate::class::class_of;
 use crate::instruction::Awaited;
 use crate::instruction::Instruction;
 use paper::refusal::UNASSIGNED;
@@ -12,34 +13,6 @@ use paper::sheet::ks0713;
 pub enum Reading {
     ReadAs(Instruction),
     Unread(u8),
-}
-
-// The class of a byte, by the ranges of the table: its row, or 0 where the byte is unassigned.
-fn class_of(byte: u8) -> u8
-    ensures { λ r. ⌜ r ≡ classOf byte ⌝ }
-{
-    match byte {
-        0x00..=0x0f => 1,
-        0x10..=0x1f => 2,
-        0x20..=0x27 => 3,
-        0x28..=0x2f => 4,
-        0x40..=0x7f => 5,
-        0x81 => 6,
-        0xa0..=0xa1 => 7,
-        0xa2..=0xa3 => 8,
-        0xa4..=0xa5 => 9,
-        0xa6..=0xa7 => 10,
-        0xac => 11,
-        0xad => 12,
-        0xae..=0xaf => 13,
-        0xb0..=0xbf => 14,
-        0xc0..=0xcf => 15,
-        0xe0 => 16,
-        0xee => 17,
-        0xe2 => 18,
-        0xe3 => 19,
-        _ => 0,
-    }
 }
 
 // The high part of a column, less the bit that the counter has no room for.

@@ -1,14 +1,17 @@
--- A list that a rule fills, and a loop that fills one.
+-- A list that a rule fills, a loop that fills one, and a list that strays nowhere from its rule.
 -- Assumes nothing.
 use mathlib.Core.Path.{_≡_, _∙_, refl, ap, sym}
-use mathlib.Core.List.{List}
+use mathlib.Core.Bool.{Bool, true, false}
+use mathlib.Core.List.{List, [], _∷_}
 use Prim.Native.Nat.{ℕ, zero, suc, _+_, _<_}
 use native.Mathlib.Nat.{add-zero, zero-add, add-suc, suc-add, le-of-suc-le-suc, not-suc-le-zero}
 use native.Mathlib.Omega.{arith}
 use lib.ListN.{length, getD, set, replicate}
 use lib.Seq.{ext-getD, getD-set-same, getD-set-other}
+use lib.Dec.{eqb}
 use borrow.Author.Count.{below-more}
-use Rattle.paper.specs.Listed.{listed}
+use borrow.Author.Tests.{eqb-true}
+use Rattle.paper.specs.Listed.{listed, unless, astray}
 
 from : (f : ℕ → ℕ) (n i k : ℕ) → k < n → getD (listed f i n) k 0 ≡ f (i + k)
 from f zero i k h = absurd (not-suc-le-zero h)
@@ -41,3 +44,14 @@ whole f l n e all =
 pub listed-same : (f : ℕ → ℕ) (a i n : ℕ) → ((k : ℕ) → f k ≡ a) → listed f i n ≡ replicate n a
 listed-same f a i zero h = refl
 listed-same f a i (suc n) h = rw (h i, listed-same f a (suc i) n h)
+
+unless-none : (t : Bool) (i : ℕ) (l : List ℕ) → unless t i l ≡ [] → (t ≡ true) × (l ≡ [])
+unless-none true i l e = (refl, e)
+unless-none false i l e = absurd (let z = ap length e in omega arith)
+
+-- a list that strays nowhere is the one that the rule fills
+pub filled : (f : ℕ → ℕ) (i : ℕ) (l : List ℕ) → astray f i l ≡ [] → l ≡ listed f i (length l)
+filled f i [] e = refl
+filled f i (x ∷ l) e =
+    let h = unless-none (eqb x (f i)) i (astray f (suc i) l) e in
+    rw (eqb-true x (f i) (h .0), ← filled f (suc i) l (h .1))

@@ -15,6 +15,6 @@ read-for-spec =
     (λ c κs. search needs)
     (λ c. search needs)
     (λ c. search needs)
-    (λ c. record { tells = rw (c .before .before .enum-told .given .1, ← c .before .class-of .ensures) (c .read-by .ensures) })
+    (λ c. record { tells = rw (c .before .before .enum-told .given .1, ← c .before .class-of .ensures .tells) (c .read-by .ensures) })
     (λ c. record { tells = rw (c .enum-told2 .given .1) })
     (λ c. record { tells = rw (c .enum-told3 .given .1) }))

@@ -8,13 +8,23 @@
 
 struct cost { double steps[SIDES], times[SIDES]; };
 
+static void count_steps(enum call call, struct cost *cost)
+{
+    for (int side = 0; side < SIDES; side++) cost->steps[side] = steps_of(sides[side].call[call]);
+}
+
+static void take_times(enum call call, struct cost *cost)
+{
+    void (*calls[SIDES])(void);
+    for (int side = 0; side < SIDES; side++) calls[side] = sides[side].call[call];
+    times_of(calls, SIDES, cost->times);
+}
+
 static struct cost cost_of(enum call call)
 {
     struct cost cost;
-    void (*calls[SIDES])(void);
-    for (int side = 0; side < SIDES; side++) calls[side] = sides[side].call[call];
-    for (int side = 0; side < SIDES; side++) cost.steps[side] = steps_of(calls[side]);
-    times_of(calls, SIDES, cost.times);
+    count_steps(call, &cost);
+    take_times(call, &cost);
     return cost;
 }
 
@@ -71,7 +81,37 @@ static void set_chip(void)
     memcpy(&desk.registers, desk.state, sizeof desk.registers);
 }
 
-/* a list of cycles: one of them is what LAPS cost more than none, divided by LAPS */
+/* a byte of each row of the instruction table, by turns and in no order. The list is timed at such a length that a processor does not
+   learn it */
+static void draw_instructions(void)
+{
+    static const uint8_t rows[] = { 0x05, 0x1c, 0x25, 0x2f, 0x60, 0x81, 0xa0, 0xa2, 0xa4, 0xa6, 0xac, 0xad, 0xaf, 0xb3, 0xc8, 0xe0, 0xee, 0xe2, 0xe3 };
+    uint32_t seed = 713;
+    for (int lap = 0; lap < MOST; lap++) {
+        seed = seed * 1664525u + 1013904223u;
+        desk.cycles[2 * lap] = 0;
+        desk.cycles[2 * lap + 1] = rows[(seed >> 16) % sizeof rows];
+    }
+}
+
+/* a call on a list: one entry is what the list costs more than none, divided by its length */
+static struct cost entry_cost(enum call call, size_t timed, struct cost none)
+{
+    struct cost all;
+    set_chip();
+    desk.laps = LAPS;
+    count_steps(call, &all);
+    set_chip();
+    desk.laps = timed;
+    take_times(call, &all);
+    for (int side = 0; side < SIDES; side++) {
+        all.steps[side] = (all.steps[side] - none.steps[side]) / LAPS;
+        all.times[side] = (all.times[side] - none.times[side]) / timed;
+    }
+    return all;
+}
+
+/* the same cycle over and over; then instructions by turns */
 static void lists(void)
 {
     struct cost none;
@@ -82,15 +122,10 @@ static void lists(void)
     row("an empty list", "the state alone", none);
     for (int c = 0; c < KINDS; c++) {
         for (int lap = 0; lap < LAPS; lap++) desk.cycles[2 * lap] = cycles[c].kind, desk.cycles[2 * lap + 1] = cycles[c].value;
-        set_chip();
-        desk.laps = LAPS;
-        struct cost all = cost_of(LIST);
-        for (int side = 0; side < SIDES; side++) {
-            all.steps[side] = (all.steps[side] - none.steps[side]) / LAPS;
-            all.times[side] = (all.times[side] - none.times[side]) / LAPS;
-        }
-        row("a cycle", cycles[c].name, all);
+        row("a cycle", cycles[c].name, entry_cost(LIST, LAPS, none));
     }
+    draw_instructions();
+    row("a cycle", "instructions by turns", entry_cost(LIST, MOST, none));
 }
 
 static void through_state(void)
@@ -109,6 +144,10 @@ static void through_state(void)
     row("V0", "resistor 5, contrast 33", cost_of(V0));
     desk.value = 0xb3;
     row("read instruction", "B3", cost_of(READ));
+    desk.laps = 0;
+    struct cost none = cost_of(READS);
+    draw_instructions();
+    row("read instruction", "by turns", entry_cost(READS, MOST, none));
     desk.number = PANEL_PAGE;
     desk.field = 3;
     row("write instruction", "page 3", cost_of(WRITE));

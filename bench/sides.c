@@ -21,6 +21,7 @@ __typeof__(model_redraw) fast_redraw;
     static void side##_first(void) { prefix##_first_difference(desk.recorded, N, desk.wanted, N, &desk.found, &desk.page, &desk.column); } \
     static void side##_redraw(void) { prefix##_redraw(desk.wanted, N, 33, desk.out, desk.room, desk.kinds, desk.room, &desk.count); } \
     static void side##_read(void) { prefix##_read_instruction(0, desk.value, &desk.number, &desk.field); } \
+    static void side##_reads(void) { for (size_t i = 0; i < desk.laps; i++) prefix##_read_instruction(0, desk.cycles[2 * i + 1], &desk.number, &desk.field); } \
     static void side##_write(void) { prefix##_write_instruction(desk.number, desk.field, &desk.byte); } \
     static void side##_v0(void) { prefix##_v0(5, 33, &desk.numerator); }
 
@@ -29,12 +30,12 @@ __typeof__(model_redraw) fast_redraw;
     static void side##_frame(void) { prefix##_frame(registers, desk.memory, N, desk.frame, N); } \
     static void side##_power(void) { prefix##_power_state(registers, &desk.power); }
 
-#define CALLS_OF(side) { side##_update, side##_length, side##_first, side##_redraw, side##_cycle, side##_list, side##_frame, side##_read, side##_write, side##_power, side##_v0 }
+#define CALLS_OF(side) { side##_update, side##_length, side##_first, side##_redraw, side##_cycle, side##_list, side##_frame, side##_read, side##_reads, side##_write, side##_power, side##_v0 }
 
 /* a list of cycles with each one's answer: the library unpacks its state once, the model's struct is at hand */
 static void ours_list(void)
 {
-    bus_run(desk.state, desk.memory, N, desk.cycles, 2 * desk.laps, desk.numbers, LAPS, desk.reads, LAPS, desk.bytes, LAPS);
+    bus_run(desk.state, desk.memory, N, desk.cycles, 2 * desk.laps, desk.numbers, MOST, desk.reads, MOST, desk.bytes, MOST);
 }
 
 #define LIST_OF(side, prefix) \

@@ -6,7 +6,7 @@
 #include "model.h"
 #include "panel.h"
 
-enum { N = PANEL_PICTURE, ROOM = PANEL_REDRAW_LENGTH, LAPS = 64 };
+enum { N = PANEL_PICTURE, ROOM = PANEL_REDRAW_LENGTH, LAPS = 64, MOST = 4096 };
 
 /* what every call is given, and where it puts its answer */
 struct desk {
@@ -15,8 +15,8 @@ struct desk {
     uint8_t state[PANEL_STATE];          /* the library's */
     struct model_registers registers;    /* the model's */
     uint8_t kind, value;                 /* one cycle */
-    uint8_t cycles[2 * LAPS];            /* or a list of them, of which `laps` are played */
-    uint8_t numbers[LAPS], reads[LAPS], bytes[LAPS]; /* and their answers */
+    uint8_t cycles[2 * MOST];            /* or a list of them, of which `laps` are played */
+    uint8_t numbers[MOST], reads[MOST], bytes[MOST]; /* and their answers */
     size_t laps, room;                   /* and the room in a stream's outputs */
     uint8_t number, field, byte, read, found, power;
     size_t count, page, column;
@@ -24,7 +24,7 @@ struct desk {
 };
 extern struct desk desk;
 
-enum call { UPDATE, LENGTH, FIRST, REDRAW, CYCLE, LIST, FRAME, READ, WRITE, POWER, V0, CALLS };
+enum call { UPDATE, LENGTH, FIRST, REDRAW, CYCLE, LIST, FRAME, READ, READS, WRITE, POWER, V0, CALLS };
 
 struct side { const char *name; void (*call[CALLS])(void); };
 enum { OURS, O2, O3, SIDES };

@@ -8,15 +8,18 @@
 
 struct cost { double steps[SIDES], times[SIDES]; };
 
+/* whose calls are measured */
+static enum chip chip = KS0713;
+
 static void count_steps(enum call call, struct cost *cost)
 {
-    for (int side = 0; side < SIDES; side++) cost->steps[side] = steps_of(sides[side].call[call]);
+    for (int side = 0; side < SIDES; side++) cost->steps[side] = steps_of(sides[chip][side].call[call]);
 }
 
 static void take_times(enum call call, struct cost *cost)
 {
     void (*calls[SIDES])(void);
-    for (int side = 0; side < SIDES; side++) calls[side] = sides[side].call[call];
+    for (int side = 0; side < SIDES; side++) calls[side] = sides[chip][side].call[call];
     times_of(calls, SIDES, cost->times);
 }
 
@@ -56,7 +59,7 @@ static void pictures(void)
         }
     for (int change = SETPOINT; change < FULL; change++) {
         draw_change(change, desk.recorded, desk.wanted);
-        sides[OURS].call[LENGTH]();
+        sides[KS0713][OURS].call[LENGTH]();
         desk.room = desk.count;
         row("update, exact room", change_name[change], cost_of(UPDATE));
     }
@@ -74,9 +77,9 @@ enum { KINDS = sizeof cycles / sizeof cycles[0] };
    same order */
 static void set_chip(void)
 {
-    panel_power_up(desk.state);
+    if (chip == KS0713) panel_power_up(desk.state); else panel0717_power_up(desk.state);
     desk.state[PANEL_AT_PAGE] = 3;
-    desk.state[PANEL_AT_COLUMN] = 200;
+    desk.state[PANEL_AT_COLUMN] = chip == KS0713 ? 200 : 120;
     desk.state[PANEL_AT_ON] = 1;
     memcpy(&desk.registers, desk.state, sizeof desk.registers);
 }
@@ -153,6 +156,26 @@ static void through_state(void)
     row("write instruction", "page 3", cost_of(WRITE));
 }
 
+/* the second chip's calls, on pictures of its own size */
+static void second_chip(void)
+{
+    head("The KS0717, streams and the packed state");
+    chip = KS0717;
+    for (size_t i = 0; i < N0717; i++) desk.recorded[i] = desk.memory[i] = (uint8_t)(31 * i), desk.wanted[i] = (uint8_t)~desk.recorded[i];
+    row("update length", "full", cost_of(LENGTH));
+    row("update, any room", "full", cost_of(UPDATE));
+    row("redraw", "any", cost_of(REDRAW));
+    memcpy(desk.wanted, desk.recorded, N0717);
+    row("first difference", "none", cost_of(FIRST));
+    row("update, any room", "none", cost_of(UPDATE));
+    set_chip();
+    desk.kind = 1, desk.value = 0x5a;
+    row("cycle", "data write", cost_of(CYCLE));
+    row("frame", "a pattern", cost_of(FRAME));
+    row("V0", "resistor 5, contrast 33", cost_of(V0));
+    chip = KS0713;
+}
+
 static void growth(void)
 {
     static const size_t columns[] = { 0, 1, 2, 4, 8, 16, 32, 64, 132, 264, 528, 1188 };
@@ -163,8 +186,8 @@ static void growth(void)
         printf("| %zu |", columns[c]);
         for (int block = 0; block < 2; block++) {
             (block ? draw_block : draw_spread)(columns[c], desk.recorded, desk.wanted);
-            sides[OURS].call[LENGTH]();
-            long ours = steps_of(sides[OURS].call[UPDATE]), theirs = steps_of(sides[O3].call[UPDATE]);
+            sides[KS0713][OURS].call[LENGTH]();
+            long ours = steps_of(sides[KS0713][OURS].call[UPDATE]), theirs = steps_of(sides[KS0713][O3].call[UPDATE]);
             printf(" %zu | %ld | %ld | %.2f |", desk.count, ours, theirs, (double)ours / theirs);
         }
         printf("\n");
@@ -180,7 +203,7 @@ static void ways(void)
     printf("|\n");
     for (int change = EQUAL; change < CHANGES; change++) {
         draw_change(change, desk.recorded, desk.wanted);
-        sides[OURS].call[LENGTH]();
+        sides[KS0713][OURS].call[LENGTH]();
         printf("| %s | %zu", change_name[change], desk.count);
         for (int way = 0; way < WAYS; way++) printf(" | %zu", bytes_of(way, desk.recorded, desk.wanted));
         printf(" |\n");
@@ -196,6 +219,7 @@ int main(int argc, char **argv)
     pictures();
     lists();
     through_state();
+    second_chip();
     growth();
     ways();
     return 0;

@@ -2,35 +2,26 @@
 
 struct desk desk;
 
-/* the model's calls once more, under the names of fast.h */
-__typeof__(model_power_up) fast_power_up;
-__typeof__(model_cycle) fast_cycle;
-__typeof__(model_read_instruction) fast_read_instruction;
-__typeof__(model_write_instruction) fast_write_instruction;
-__typeof__(model_frame) fast_frame;
-__typeof__(model_power_state) fast_power_state;
-__typeof__(model_v0) fast_v0;
-__typeof__(model_first_difference) fast_first_difference;
-__typeof__(model_update_length) fast_update_length;
-__typeof__(model_update) fast_update;
-__typeof__(model_redraw) fast_redraw;
+/* the model's calls once more, under the names of fast.h and fast0717.h */
+MODEL_CALLS(fast)
+MODEL_CALLS(fast0717)
 
-#define STREAMS(side, prefix) \
-    static void side##_update(void) { prefix##_update(desk.recorded, N, desk.wanted, N, desk.out, desk.room, desk.kinds, desk.room, &desk.count); } \
-    static void side##_length(void) { prefix##_update_length(desk.recorded, N, desk.wanted, N, &desk.count); } \
-    static void side##_first(void) { prefix##_first_difference(desk.recorded, N, desk.wanted, N, &desk.found, &desk.page, &desk.column); } \
-    static void side##_redraw(void) { prefix##_redraw(desk.wanted, N, 33, desk.out, desk.room, desk.kinds, desk.room, &desk.count); } \
+#define STREAMS(side, prefix, n) \
+    static void side##_update(void) { prefix##_update(desk.recorded, n, desk.wanted, n, desk.out, desk.room, desk.kinds, desk.room, &desk.count); } \
+    static void side##_length(void) { prefix##_update_length(desk.recorded, n, desk.wanted, n, &desk.count); } \
+    static void side##_first(void) { prefix##_first_difference(desk.recorded, n, desk.wanted, n, &desk.found, &desk.page, &desk.column); } \
+    static void side##_redraw(void) { prefix##_redraw(desk.wanted, n, 33, desk.out, desk.room, desk.kinds, desk.room, &desk.count); } \
     static void side##_read(void) { prefix##_read_instruction(0, desk.value, &desk.number, &desk.field); } \
     static void side##_reads(void) { for (size_t i = 0; i < desk.laps; i++) prefix##_read_instruction(0, desk.cycles[2 * i + 1], &desk.number, &desk.field); } \
     static void side##_write(void) { prefix##_write_instruction(desk.number, desk.field, &desk.byte); } \
     static void side##_v0(void) { prefix##_v0(5, 33, &desk.numerator); }
 
-#define CHIP(side, prefix, registers) \
-    static void side##_cycle(void) { prefix##_cycle(registers, desk.memory, N, desk.kind, desk.value, &desk.read, &desk.byte); } \
-    static void side##_frame(void) { prefix##_frame(registers, desk.memory, N, desk.frame, N); } \
+#define CHIP(side, prefix, registers, n) \
+    static void side##_cycle(void) { prefix##_cycle(registers, desk.memory, n, desk.kind, desk.value, &desk.read, &desk.byte); } \
+    static void side##_frame(void) { prefix##_frame(registers, desk.memory, n, desk.frame, n); } \
     static void side##_power(void) { prefix##_power_state(registers, &desk.power); }
 
-#define CALLS_OF(side) { side##_update, side##_length, side##_first, side##_redraw, side##_cycle, side##_list, side##_frame, side##_read, side##_reads, side##_write, side##_power, side##_v0 }
+#define CALLS_OF(side, list) { side##_update, side##_length, side##_first, side##_redraw, side##_cycle, list, side##_frame, side##_read, side##_reads, side##_write, side##_power, side##_v0 }
 
 /* a list of cycles with each one's answer: the library unpacks its state once, the model's struct is at hand */
 static void ours_list(void)
@@ -47,17 +38,23 @@ static void ours_list(void)
         } \
     }
 
-STREAMS(ours, panel)
-CHIP(ours, panel, desk.state)
-STREAMS(o2, model)
-CHIP(o2, model, &desk.registers)
+STREAMS(ours, panel, N)
+CHIP(ours, panel, desk.state, N)
+STREAMS(o2, model, N)
+CHIP(o2, model, &desk.registers, N)
 LIST_OF(o2, model)
-STREAMS(o3, fast)
-CHIP(o3, fast, &desk.registers)
+STREAMS(o3, fast, N)
+CHIP(o3, fast, &desk.registers, N)
 LIST_OF(o3, fast)
 
-const struct side sides[SIDES] = {
-    { "library", CALLS_OF(ours) },
-    { "C -O2", CALLS_OF(o2) },
-    { "C -O3 restrict", CALLS_OF(o3) },
+STREAMS(ours0717, panel0717, N0717)
+CHIP(ours0717, panel0717, desk.state, N0717)
+STREAMS(o20717, model0717, N0717)
+CHIP(o20717, model0717, &desk.registers, N0717)
+STREAMS(o30717, fast0717, N0717)
+CHIP(o30717, fast0717, &desk.registers, N0717)
+
+const struct side sides[CHIPS][SIDES] = {
+    { { "library", CALLS_OF(ours, ours_list) }, { "C -O2", CALLS_OF(o2, o2_list) }, { "C -O3 restrict", CALLS_OF(o3, o3_list) } },
+    { { "library", CALLS_OF(ours0717, 0) }, { "C -O2", CALLS_OF(o20717, 0) }, { "C -O3 restrict", CALLS_OF(o30717, 0) } },
 };

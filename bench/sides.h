@@ -1,12 +1,12 @@
-/* The three sides that are compared: the proved library, and the independent model twice, at -O2 and at -O3 with restrict. Each is
-   the same list of calls on the same buffers, so that a count or a time differs by the call alone. */
+/* The three sides that are compared: the proved library, and the independent model twice, at -O2 and at -O3 with restrict; for each
+   chip. Each is the same list of calls on the same buffers, so that a count or a time differs by the call alone. */
 #ifndef SIDES_H
 #define SIDES_H
 #include "bus.h"
 #include "model.h"
-#include "panel.h"
+#include "panel0717.h"
 
-enum { N = PANEL_PICTURE, ROOM = PANEL_REDRAW_LENGTH, LAPS = 64, MOST = 4096 };
+enum { N = PANEL_PICTURE, N0717 = PANEL0717_PICTURE, ROOM = PANEL_REDRAW_LENGTH, LAPS = 64, MOST = 4096 };
 
 /* what every call is given, and where it puts its answer */
 struct desk {
@@ -26,7 +26,9 @@ extern struct desk desk;
 
 enum call { UPDATE, LENGTH, FIRST, REDRAW, CYCLE, LIST, FRAME, READ, READS, WRITE, POWER, V0, CALLS };
 
+/* a call that a chip does not have is null: the KS0717 plays no lists */
 struct side { const char *name; void (*call[CALLS])(void); };
 enum { OURS, O2, O3, SIDES };
-extern const struct side sides[SIDES];
+enum chip { KS0713, KS0717, CHIPS };
+extern const struct side sides[CHIPS][SIDES];
 #endif

@@ -1,4 +1,5 @@
 /* The panel library: the KS0713 seen from its bus, its instruction bytes, the lit frame, and the streams that show a picture.
+ * panel0717.h has the same for the KS0717.
  *
  * What every call here does is proved (crates/panel): its answer, every output and every byte that it is lent. What no proof can
  * test is left to the caller:
@@ -39,7 +40,7 @@ enum {
 /* The numbers that a refusal carries. */
 enum {
     PANEL_OK = 0,
-    PANEL_WRONG_SIZE = 1,        /* a picture, memory or frame buffer is not 1,188 bytes */
+    PANEL_WRONG_SIZE = 1,        /* a picture, memory or frame buffer is not nine pages: 1,188 bytes here */
     PANEL_OUT_OF_RANGE = 2,      /* a register is outside its range */
     PANEL_PIN_LOW = 3,           /* reset pin low, and the cycle is an instruction, a data write or a data read */
     PANEL_UNASSIGNED = 4,        /* instruction byte unassigned and nothing awaited */

@@ -1,8 +1,24 @@
-/* Compares every call of the proved library with the independent model on seeded input, good and damaged.
-   usage: differ CASES CYCLES; status 0 where nothing differs and every refusal number was seen, else 1. */
+/* Compares every call of the proved libraries with the independent model on seeded input, good and damaged. Compiled as it is for the
+   KS0713, with main, and once more with -DKS0717 for the KS0717.
+   usage: differ CASES CYCLES; the status is 0, with 1 added where the KS0713 differs and 2 where the KS0717 does. A chip of which
+   some refusal number was never seen counts as one that differs. */
 #include "bus.h"
 #include "model.h"
-#include "panel.h"
+#include "panel0717.h"
+
+#ifdef KS0717
+#define CHIP "KS0717"
+#define PANEL(call) panel0717_##call
+#define MODEL(call) model0717_##call
+#define COMPARE compare0717
+enum { COLUMNS = PANEL0717_COLUMNS, N = PANEL0717_PICTURE, REDRAW = PANEL0717_REDRAW_LENGTH, COUNTER = 128, OTHER = PANEL_PICTURE };
+#else
+#define CHIP "KS0713"
+#define PANEL(call) panel_##call
+#define MODEL(call) model_##call
+#define COMPARE compare0713
+enum { COLUMNS = PANEL_COLUMNS, N = PANEL_PICTURE, REDRAW = PANEL_REDRAW_LENGTH, COUNTER = 256, OTHER = PANEL0717_PICTURE };
+#endif
 
 int printf(const char *, ...);
 int memcmp(const void *, const void *, size_t);
@@ -10,7 +26,7 @@ void *memcpy(void *, const void *, size_t);
 void *memset(void *, int, size_t);
 long atol(const char *);
 
-enum { N = PANEL_PICTURE, ROOM = 1400 };
+enum { ROOM = 1400 };
 
 static uint64_t seed = 0x9E3779B97F4A7C15u;
 static uint32_t rnd(void)
@@ -27,7 +43,7 @@ static unsigned long cases, differences, numbers[256];
 static int same(const char *what, int ok)
 {
     cases++;
-    if (!ok && differences++ < 5) printf("differs: %s (case %lu)\n", what, cases);
+    if (!ok && differences++ < 5) printf(CHIP " differs: %s (case %lu)\n", what, cases);
     return ok;
 }
 
@@ -37,12 +53,12 @@ static void good_state(uint8_t s[PANEL_STATE])
 {
     memset(s, 0, PANEL_STATE);
     s[0] = below(2) ? below(9) : below(16);
-    s[1] = below(2) ? below(133) : below(256);
+    s[1] = below(2) ? below(COLUMNS + 1) : below(COUNTER);
     s[2] = below(64), s[3] = below(64), s[4] = below(8), s[5] = below(8);
     for (int i = 6; i < 13; i++) s[i] = below(2);
     s[13] = below(4), s[14] = rnd();
     s[15] = below(8) == 0;
-    s[16] = below(2), s[17] = s[16] ? below(256) : 0, s[18] = below(3);
+    s[16] = below(2), s[17] = s[16] ? below(COUNTER) : 0, s[18] = below(3);
 }
 static void any_state(uint8_t s[PANEL_STATE])
 {
@@ -52,6 +68,7 @@ static void any_state(uint8_t s[PANEL_STATE])
     case 1: s[3] = 62 + below(4); break;
     case 2: s[16] = 0, s[17] = below(4); break;
     case 3: s[6 + below(13)] = below(4); break;
+    case 4: s[below(2) ? 1 : 17] = 126 + below(4); break;
     default: break;
     }
 }
@@ -74,11 +91,12 @@ static void pictures(uint8_t *a, uint8_t *b)
     if (shape == 2) for (int i = 0; i < N; i++) if (below(40) == 0) b[i] = rnd();
     if (shape == 3) for (int i = 0; i < N; i++) if (rnd() & 1) b[i] = rnd();
     if (shape == 4) for (int i = 0; i < N;) { int n = below(8), g = below(6); while (n-- && i < N) { b[i] = a[i] + 1; i++; } i += g; }
-    if (shape == 5) for (int i = 1056; i < N; i++) b[i] = rnd();
+    if (shape == 5) for (int i = 8 * COLUMNS; i < N; i++) b[i] = rnd();
     if (shape == 6) b[below(N)] = rnd();
-    if (shape == 7) { int c = 132 * below(9) + below(120); b[c] ^= 1; b[c + 1 + below(6)] ^= 1; }
+    if (shape == 7) { int c = COLUMNS * below(9) + below(COLUMNS - 12); b[c] ^= 1; b[c + 1 + below(6)] ^= 1; }
 }
-static size_t some_length(void) { return below(50) ? N : below(3) ? N - 1 + 2 * below(2) : below(ROOM); }
+/* now and then one off, the other chip's, or any */
+static size_t some_length(void) { return below(50) ? N : below(3) ? N - 1 + 2 * below(2) : below(2) ? OTHER : below(ROOM); }
 static size_t room_near(size_t need) { uint32_t d = below(6); return d < 3 ? need + below(3) : d == 3 ? (need ? need - 1 : 0) : below(ROOM); }
 
 /* ---- the calls */
@@ -88,30 +106,30 @@ static void streams(void)
     static uint8_t a[ROOM], b[ROOM], o1[ROOM], o2[ROOM], k1[ROOM], k2[ROOM];
     pictures(a, b);
     size_t la = some_length(), lb = some_length(), n1 = 77, n2 = 77;
-    uint8_t r1 = panel_update_length(a, la, b, lb, &n1), r2 = model_update_length(a, la, b, lb, &n2);
+    uint8_t r1 = PANEL(update_length)(a, la, b, lb, &n1), r2 = MODEL(update_length)(a, la, b, lb, &n2);
     numbers[r2]++;
     same("update_length", r1 == r2 && n1 == n2);
 
     size_t need = r2 ? 0 : n2, lo = room_near(need), lk = room_near(need);
     for (int i = 0; i < ROOM; i++) o1[i] = o2[i] = rnd(), k1[i] = k2[i] = rnd();
     n1 = n2 = 77;
-    r1 = panel_update(a, la, b, lb, o1, lo, k1, lk, &n1);
-    r2 = model_update(a, la, b, lb, o2, lo, k2, lk, &n2);
+    r1 = PANEL(update)(a, la, b, lb, o1, lo, k1, lk, &n1);
+    r2 = MODEL(update)(a, la, b, lb, o2, lo, k2, lk, &n2);
     numbers[r2]++;
     same("update", r1 == r2 && n1 == n2 && !memcmp(o1, o2, ROOM) && !memcmp(k1, k2, ROOM));
 
     uint8_t contrast = below(8) ? below(64) : 62 + below(4);
-    lo = room_near(PANEL_REDRAW_LENGTH), lk = room_near(PANEL_REDRAW_LENGTH);
+    lo = room_near(REDRAW), lk = room_near(REDRAW);
     n1 = n2 = 77;
-    r1 = panel_redraw(b, lb, contrast, o1, lo, k1, lk, &n1);
-    r2 = model_redraw(b, lb, contrast, o2, lo, k2, lk, &n2);
+    r1 = PANEL(redraw)(b, lb, contrast, o1, lo, k1, lk, &n1);
+    r2 = MODEL(redraw)(b, lb, contrast, o2, lo, k2, lk, &n2);
     numbers[r2]++;
     same("redraw", r1 == r2 && n1 == n2 && !memcmp(o1, o2, ROOM) && !memcmp(k1, k2, ROOM));
 
     uint8_t f1 = 9, f2 = 9;
     size_t p1 = 77, p2 = 77, c1 = 77, c2 = 77;
-    r1 = panel_first_difference(a, la, b, lb, &f1, &p1, &c1);
-    r2 = model_first_difference(a, la, b, lb, &f2, &p2, &c2);
+    r1 = PANEL(first_difference)(a, la, b, lb, &f1, &p1, &c1);
+    r2 = MODEL(first_difference)(a, la, b, lb, &f2, &p2, &c2);
     numbers[r2]++;
     same("first_difference", r1 == r2 && f1 == f2 && p1 == p2 && c1 == c2);
 }
@@ -125,16 +143,18 @@ static void frames(void)
     to_model(&r, s);
     for (int i = 0; i < ROOM; i++) m[i] = rnd(), f1[i] = f2[i] = rnd();
     size_t lm = some_length(), lf = some_length();
-    uint8_t n1 = panel_frame(s, m, lm, f1, lf), n2 = model_frame(&r, m, lm, f2, lf);
-    if (!n2 && spare(s)) { n2 = 2; memcpy(f2, f1, ROOM); }
+    static uint8_t before[ROOM];
+    memcpy(before, f1, ROOM);
+    uint8_t n1 = PANEL(frame)(s, m, lm, f1, lf), n2 = MODEL(frame)(&r, m, lm, f2, lf);
+    if (!n2 && spare(s)) { n2 = 2; memcpy(f2, before, ROOM); }
     numbers[n2]++;
     same("frame", n1 == n2 && !memcmp(f1, f2, ROOM));
-    n1 = panel_power_state(s, &a1), n2 = model_power_state(&r, &a2);
+    n1 = PANEL(power_state)(s, &a1), n2 = MODEL(power_state)(&r, &a2);
     if (spare(s)) n2 = 2, a2 = 9;
     same("power_state", n1 == n2 && a1 == a2);
     uint8_t resistor = below(10), contrast = below(70);
     uint32_t v1 = 7, v2 = 7;
-    n1 = panel_v0(resistor, contrast, &v1), n2 = model_v0(resistor, contrast, &v2);
+    n1 = PANEL(v0)(resistor, contrast, &v1), n2 = MODEL(v0)(resistor, contrast, &v2);
     same("v0", n1 == n2 && v1 == v2);
 }
 
@@ -143,13 +163,13 @@ static void bytes(void)
 {
     for (int a = 0; a < 4; a++) for (int b = 0; b < 256; b++) {
         uint8_t n1 = 99, n2 = 99, v1 = 98, v2 = 98;
-        uint8_t r1 = panel_read_instruction(a, b, &n1, &v1), r2 = model_read_instruction(a, b, &n2, &v2);
+        uint8_t r1 = PANEL(read_instruction)(a, b, &n1, &v1), r2 = MODEL(read_instruction)(a, b, &n2, &v2);
         numbers[r2]++;
         same("read_instruction", r1 == r2 && n1 == n2 && v1 == v2);
     }
     for (int n = 0; n < 32; n++) for (int v = 0; v < 256; v++) {
         uint8_t b1 = 97, b2 = 97;
-        uint8_t r1 = panel_write_instruction(n, v, &b1), r2 = model_write_instruction(n, v, &b2);
+        uint8_t r1 = PANEL(write_instruction)(n, v, &b1), r2 = MODEL(write_instruction)(n, v, &b2);
         numbers[r2]++;
         same("write_instruction", r1 == r2 && b1 == b2);
     }
@@ -157,12 +177,13 @@ static void bytes(void)
 
 static void some_cycle(uint8_t *kind, uint8_t *value)
 {
-    static const uint8_t often[8] = { 0x81, 0xAD, 0xE0, 0xEE, 0xE2, 0xB8, 0x18, 0x03 };
+    static const uint8_t often[8] = { 0x81, 0xAD, 0xE0, 0xEE, 0xE2, 0xB8, 0x10 + (COLUMNS - 1) / 16, (COLUMNS - 1) % 16 };
     *kind = below(20) ? below(4) : below(8), *value = rnd();
     if (*kind == 0 && below(3) == 0) *value = often[below(8)];
     if (*kind >= 2 && below(20)) *value = 0;
 }
 
+#ifndef KS0717
 /* the model of a list: each cycle by itself, its answer at its entry; the list is refused as a whole first */
 static uint8_t model_list(struct model_registers *r, int used, uint8_t *m, size_t length, const uint8_t *list, size_t n,
                           uint8_t *out[3], const size_t room[3])
@@ -170,11 +191,11 @@ static uint8_t model_list(struct model_registers *r, int used, uint8_t *m, size_
     uint8_t flag = 0, byte = 0;
     struct model_registers asked = *r;
     if (length != N) return 1;
-    if (used || model_cycle(&asked, m, length, 2, 0, &flag, &byte) == 2) return 2; /* a status read meets 1 and 2, and changes nothing */
+    if (used || MODEL(cycle)(&asked, m, length, 2, 0, &flag, &byte) == 2) return 2; /* a status read meets 1 and 2, and changes nothing */
     for (int i = 0; i < 3; i++) if (room[i] < n) return 5;
     for (size_t i = 0; i < n; i++) {
         flag = byte = 0;
-        out[0][i] = model_cycle(r, m, length, list[2 * i], list[2 * i + 1], &flag, &byte);
+        out[0][i] = MODEL(cycle)(r, m, length, list[2 * i], list[2 * i + 1], &flag, &byte);
         out[1][i] = flag, out[2][i] = byte;
     }
     return 0;
@@ -206,14 +227,16 @@ static void lists(void)
     same("bus_run", n1 == n2 && state && !memcmp(m1, m2, ROOM) && !memcmp(ours, theirs, sizeof ours));
 }
 
+#endif
+
 /* one cycle, from the state that the last one left or from another, in range or not */
 static void cycles(long count)
 {
     static uint8_t m1[ROOM], m2[ROOM];
     uint8_t s[PANEL_STATE];
     struct model_registers r;
-    panel_power_up(s);
-    model_power_up(&r);
+    PANEL(power_up)(s);
+    MODEL(power_up)(&r);
     same("power_up", !memcmp(s, &r, sizeof r) && !spare(s));
     for (int i = 0; i < ROOM; i++) m1[i] = m2[i] = rnd();
     for (long i = 0; i < count; i++) {
@@ -223,33 +246,45 @@ static void cycles(long count)
             if (below(2)) any_state(s); else good_state(s);
             to_model(&r, s);
         }
-        size_t length = below(200) ? N : below(ROOM);
+        size_t length = below(200) ? N : below(2) ? OTHER : below(ROOM);
         uint8_t before[PANEL_STATE], g1 = 7, g2 = 7, b1 = 5, b2 = 5;
         memcpy(before, s, PANEL_STATE);
-        uint8_t n1 = panel_cycle(s, m1, length, kind, value, &g1, &b1), n2;
+        uint8_t n1 = PANEL(cycle)(s, m1, length, kind, value, &g1, &b1), n2;
         if (spare(before) && length == N) n2 = 2;
-        else n2 = model_cycle(&r, m2, length, kind, value, &g2, &b2);
+        else n2 = MODEL(cycle)(&r, m2, length, kind, value, &g2, &b2);
         numbers[n2]++;
         int kept = !n1 || !memcmp(before, s, PANEL_STATE);
-        int equal = n1 == n2 && g1 == g2 && b1 == b2 && kept && !memcmp(s, &r, sizeof r);
+        int equal = n1 == n2 && g1 == g2 && b1 == b2 && kept && (n1 || !spare(s)) && !memcmp(s, &r, sizeof r);
         if (i % 64 == 0 || kind == 1) equal = equal && !memcmp(m1, m2, ROOM);
         if (!same("cycle", equal)) { memcpy(m2, m1, ROOM); good_state(s); to_model(&r, s); }
         if (spare(s)) { good_state(s); to_model(&r, s); }
     }
 }
 
-int main(int argc, char **argv)
+int COMPARE(long n, long c);
+int COMPARE(long n, long c)
 {
     static const int must[7] = { 1, 2, 3, 4, 5, 6, 9 };
-    long n = argc > 1 ? atol(argv[1]) : 100000, c = argc > 2 ? atol(argv[2]) : 1000000;
     bytes();
     for (long i = 0; i < n && differences < 5; i++) streams();
     for (long i = 0; i < n / 4 && differences < 5; i++) frames();
+#ifndef KS0717
     for (long i = 0; i < n / 4 && differences < 5; i++) lists();
+#endif
     if (differences < 5) cycles(c);
     int missing = 0;
-    for (int i = 0; i < 7; i++) if (!numbers[must[i]]) { printf("refusal %d never occurred\n", must[i]); missing = 1; }
-    printf("%lu comparisons, %lu differences; refusals 1: %lu, 2: %lu, 3: %lu, 4: %lu, 5: %lu, 6: %lu, 9: %lu\n", cases, differences,
+    for (int i = 0; i < 7; i++) if (!numbers[must[i]]) { printf(CHIP ": refusal %d never occurred\n", must[i]); missing = 1; }
+    printf(CHIP ": %lu comparisons, %lu differences; refusals 1: %lu, 2: %lu, 3: %lu, 4: %lu, 5: %lu, 6: %lu, 9: %lu\n", cases, differences,
            numbers[1], numbers[2], numbers[3], numbers[4], numbers[5], numbers[6], numbers[9]);
     return differences || missing;
 }
+
+#ifndef KS0717
+int compare0717(long n, long c);
+int main(int argc, char **argv)
+{
+    long n = argc > 1 ? atol(argv[1]) : 100000, c = argc > 2 ? atol(argv[2]) : 1000000;
+    int first = compare0713(n, c);
+    return first + 2 * compare0717(n, c);
+}
+#endif

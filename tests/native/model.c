@@ -1,6 +1,9 @@
-/* The panel model of model.h, written from document 01 alone.
-   Sentences in quotes are document 01's own; "Decision" marks a point settled by combining them.
-   Words in the form @name are markers for faults.txt and mean nothing else.
+/* The panel model of model.h, written from document 01 alone and, for the second chip, from order 1.
+   Compiled as it is, this file is the model of the KS0713; compiled with -include ks0717.h it is that of the KS0717, under
+   the names and with the numbers given there. The chips differ in the numbers of the first block below and in nothing else.
+   Sentences in quotes are document 01's own, and after "Order 1:" the order's, which hold for the KS0717 in place of
+   those of 01; "Decision" marks a point settled by combining them.
+   Words in the form @name are markers for faults.txt (here and in ks0717.h) and mean nothing else.
 
    Nothing here checks for null pointers, and lent buffers are taken not to overlap one another
    (recorded and wanted may be the same buffer, as both are only read). */
@@ -10,11 +13,35 @@
 #define R
 #endif
 
+/* The KS0713's numbers; ks0717.h has the same list for the KS0717. */
+#ifndef COLUMNS
 /* "A picture is 1,188 bytes: 9 pages of 132 columns, byte 132·page + column." */
-#define PAGES 9u
 #define COLUMNS 132u
-#define PICTURE 1188u
+/* "Registers: page 0..15; column 0..255" */
+#define COUNTER_LAST 255u
+/* "00-0F / 10-1F | low / high four bits of column". The largest high part. */
+#define HIGH_LAST 15u
+/* "Advancing adds 1 below 132 and changes nothing from 132 up (house reading of 002's locked counter)." */
+#define LOCK 132u
+/* "rows 0..63 are the commons" */
+#define ROWS 64u
+/* "Start values are 0 and off, except contrast 32 (house)." */
+#define RESISTOR_START 0u
+/* "1 + Rb/Ra in hundredths by resistor, from 002: 190, 219, 255, 302, 361, 435, 529, 648." */
+#define RATIOS 190, 219, 255, 302, 361, 435, 529, 648 /* @ratios */
+/* "V0 in millivolts is ratio·(237 + contrast)/15" */
+#define V0_BASE 237u
+#define V0_FACTOR 1u
+#endif
+
+/* "9 pages of 132 columns". Order 1: "Its memory is 65 by 100".
+   Decision: 65 lines are 01's 64 on pages 0 to 7 and the one of page 8, so the KS0717 has nine pages too. */
+#define PAGES 9u
 #define ICON_PAGE 8u
+/* "A picture is 1,188 bytes". Order 1: "a picture is 900 bytes" */
+#define PICTURE (PAGES * COLUMNS)
+/* "4 + 9·135 = 1,219 bytes". Order 1: "the redraw 931" */
+#define REDRAW (4u + PAGES * (COLUMNS + 3u))
 
 /* The words of the register "awaited". */
 #define AWAITS_NOTHING 0u
@@ -46,7 +73,8 @@
 
 /* ---------------------------------------------------------------- memory and registers */
 
-/* "byte 132·page + column" */
+/* "byte 132·page + column". Order 1: "Its memory is 65 by 100, so a picture is 900 bytes".
+   Decision: byte 100·page + column on the KS0717. */
 static size_t cell(size_t page, size_t column)
 {
     return COLUMNS * page + column;
@@ -67,16 +95,24 @@ static int differs(const uint8_t *recorded, const uint8_t *wanted, size_t page, 
     return existing(page, recorded[cell(page, column)]) != existing(page, wanted[cell(page, column)]);
 }
 
+/* "column 0..255". Order 1: "the column counter has seven bits"; "number 2 a column, saved or not, above 127". */
+static int in_counter(unsigned column)
+{
+    return column <= COUNTER_LAST;
+}
+
 /* "Registers: page 0..15; column 0..255; start line 0..63; contrast 0..63; resistor 0..7; power 0..7 (VC, VR, VF);
    bias, ADC, SHL, reverse, entire display, display on and indicator mode, each 0 or 1; indicator value 0..3; bus holder,
    a byte; reset pin."
    "The state holds either no saved column or exactly one (modify-read). It awaits either nothing, a contrast byte or an
    indicator byte."
-   Decision: column and holder are bytes, so nothing is outside their range. "either no saved column or exactly one" is
-   given here by two fields; modify_read 0 with a saved column other than 0 is no such state and so out of range. */
+   Decision: the holder is a byte, so nothing is outside its range, nor outside the column's on the KS0713. "either no
+   saved column or exactly one" is given here by two fields; modify_read 0 with a saved column other than 0 is no such
+   state and so out of range. */
 static int in_range(const struct model_registers *r)
 {
     if (r->page > 15u) return 0;
+    if (!in_counter(r->column)) return 0;
     if (r->start_line > 63u) return 0;
     if (r->contrast > 63u) return 0; /* @range_contrast */
     if (r->resistor > 7u) return 0;
@@ -91,13 +127,14 @@ static int in_range(const struct model_registers *r)
     if (r->indicator_value > 3u) return 0;
     if (r->pin_low > 1u) return 0;
     if (r->modify_read > 1u) return 0;
+    if (!in_counter(r->saved_column)) return 0; /* @saved_counter */
     if (r->modify_read == 0u && r->saved_column != 0u) return 0; /* @range_saved */
     if (r->awaited > 2u) return 0;
     return 1;
 }
 
 /* "Pin low: every register takes its start value, the awaited byte and the saved column are forgotten, memory and holder
-   are kept (house). Start values are 0 and off, except contrast 32 (house)."
+   are kept (house). Start values are 0 and off, except contrast 32 (house)." On the KS0717 the resistor's is 4 (ks0717.h).
    Decision: the pin itself is a register, and the cycle leaves it low. */
 static void pin_goes_low(struct model_registers *r)
 {
@@ -105,7 +142,7 @@ static void pin_goes_low(struct model_registers *r)
     r->column = 0;
     r->start_line = 0;
     r->contrast = 32; /* @start_contrast */
-    r->resistor = 0;
+    r->resistor = RESISTOR_START;
     r->power = 0;
     r->bias = 0;
     r->adc = 0;
@@ -162,8 +199,9 @@ uint8_t model_read_instruction(uint8_t awaited, uint8_t byte, uint8_t *number, u
         n = I_COLUMN_LOW;
         v = byte;
     } else if (byte <= 0x1Fu) {
+        /* Order 1: "bit 3 of a high column byte is free". So 18-1F are read as 10-17. */
         n = I_COLUMN_HIGH;
-        v = (uint8_t)(byte - 0x10u);
+        v = (uint8_t)((byte - 0x10u) % (HIGH_LAST + 1u)); /* @read_high */
     } else if (byte <= 0x27u) {
         /* "20-27, 28-2F | resistor, power" */
         n = I_RESISTOR;
@@ -249,9 +287,10 @@ uint8_t model_write_instruction(uint8_t number, uint8_t value, uint8_t *byte)
 
     step = 1;
     switch (number) {
-    /* "00-0F / 10-1F | low / high four bits of column" */
+    /* "00-0F / 10-1F | low / high four bits of column". Order 1: "bit 3 of a high column byte is free". Decision: the free
+       bit is put to 0 and no part of the field, so a high part above 7 is 6. */
     case I_COLUMN_LOW: first = 0x00; top = 15; break;
-    case I_COLUMN_HIGH: first = 0x10; top = 15; break;
+    case I_COLUMN_HIGH: first = 0x10; top = HIGH_LAST; break; /* @write_high */
     /* "20-27, 28-2F | resistor, power" */
     case I_RESISTOR: first = 0x20; top = 7; break;
     case I_POWER: first = 0x28; top = 7; break; /* @write_power */
@@ -390,17 +429,18 @@ static void carry_out(struct model_registers *r, uint8_t number, uint8_t value)
 
 /* ---------------------------------------------------------------- cycles */
 
-/* "stored if page ≤ 8 and column ≤ 131, otherwise nothing is stored"; a read takes "the cell (0 if there is none)" */
+/* "stored if page ≤ 8 and column ≤ 131, otherwise nothing is stored"; a read takes "the cell (0 if there is none)".
+   Order 1: "Its memory is 65 by 100". Decision: column ≤ 99 on the KS0717. */
 static int cell_exists(const struct model_registers *r)
 {
-    return r->page <= 8u && r->column <= 131u; /* @cell_exists */
+    return r->page <= 8u && r->column <= COLUMNS - 1u; /* @cell_exists */
 }
 
 /* "Advancing adds 1 below 132 and changes nothing from 132 up (house reading of 002's locked counter). Page plays no
-   part." */
+   part." Order 1: "it locks from 100". */
 static void advance(struct model_registers *r)
 {
-    if (r->column < 132u) /* @advance */
+    if (r->column < LOCK) /* @advance */
         r->column = (uint8_t)(r->column + 1u);
 }
 
@@ -426,7 +466,7 @@ uint8_t model_cycle(struct model_registers *r, uint8_t *memory, size_t memory_le
 {
     uint8_t refusal, number, field;
 
-    /* 1: "a picture, memory or frame buffer is not 1,188 bytes" (whatever the kind) */
+    /* 1: "a picture, memory or frame buffer is not 1,188 bytes" (whatever the kind). Order 1: "number 1 uses 900 here" */
     if (memory_len != PICTURE)
         return 1;
     /* 2: "a register is outside its range" */
@@ -518,12 +558,12 @@ static unsigned dot(const struct model_registers *r, unsigned bit)
 }
 
 /* "A frame has a picture's layout, with segments for columns and rows for lines; rows 0..63 are the commons and strip 8
-   bit 0 the icon row." */
+   bit 0 the icon row." Order 1: "rows are 0..53". */
 uint8_t model_frame(const struct model_registers *r, const uint8_t *memory, size_t memory_len, uint8_t *frame, size_t frame_len)
 {
-    unsigned strip, segment, column, b, row, line, bit, byte;
+    unsigned strip, segment, column, b, row, line, bit, lit, byte;
 
-    /* 1: "a picture, memory or frame buffer is not 1,188 bytes" */
+    /* 1: "a picture, memory or frame buffer is not 1,188 bytes". Order 1: "number 1 uses 900 here" */
     if (memory_len != PICTURE || frame_len != PICTURE)
         return 1;
     /* 2: "a register is outside its range" */
@@ -531,24 +571,32 @@ uint8_t model_frame(const struct model_registers *r, const uint8_t *memory, size
         return 2;
 
     for (segment = 0; segment < COLUMNS; segment++) {
-        /* "Segment s shows column s if ADC is 0, 131 − s if 1." */
+        /* "Segment s shows column s if ADC is 0, 131 − s if 1." Order 1: "ADC 1 shows column 99 − s". */
         if (r->adc == 0u) /* @frame_adc */
             column = segment;
         else
-            column = 131u - segment;
+            column = COLUMNS - 1u - segment;
 
         for (strip = 0; strip < 8u; strip++) {
             byte = 0;
             for (b = 0; b < 8u; b++) {
                 row = 8u * strip + b;
-                /* "Row k shows line (start + k) mod 64 if SHL is 0, (start + 63 − k) mod 64 if 1." */
-                if (r->shl == 0u)
-                    line = (r->start_line + row) % 64u;
-                else
-                    line = (r->start_line + 63u - row) % 64u; /* @frame_shl */
-                /* "Bit b of a byte on page p (0 to 7) is line 8p + b." */
-                bit = (unsigned)memory[cell(line / 8u, column)] >> (line % 8u) & 1u;
-                byte |= dot(r, bit) << b;
+                if (row < ROWS) {
+                    /* "Row k shows line (start + k) mod 64 if SHL is 0, (start + 63 − k) mod 64 if 1." Order 1: "row k
+                       showing line (start + k) mod 64, or (start + 53 − k) mod 64 with SHL 1". */
+                    if (r->shl == 0u)
+                        line = (r->start_line + row) % 64u;
+                    else
+                        line = (r->start_line + ROWS - 1u - row) % 64u; /* @frame_shl */
+                    /* "Bit b of a byte on page p (0 to 7) is line 8p + b." */
+                    bit = (unsigned)memory[cell(line / 8u, column)] >> (line % 8u) & 1u;
+                    lit = dot(r, bit);
+                } else {
+                    /* Order 1: "Rows 54 to 63 of its frame are 0." Decision: they are no dots of the glass, so neither
+                       entire display nor reverse lights them. */
+                    lit = 0; /* @beyond_rows */
+                }
+                byte |= lit << b;
             }
             frame[cell(strip, segment)] = (uint8_t)byte;
         }
@@ -562,16 +610,17 @@ uint8_t model_frame(const struct model_registers *r, const uint8_t *memory, size
 
 /* ---------------------------------------------------------------- V0 */
 
-/* "1 + Rb/Ra in hundredths by resistor, from 002: 190, 219, 255, 302, 361, 435, 529, 648." */
-static const uint16_t ratios[8] = {190, 219, 255, 302, 361, 435, 529, 648}; /* @ratios */
+/* "1 + Rb/Ra in hundredths by resistor". Order 1: "Ratios in tenths". */
+static const uint16_t ratios[8] = {RATIOS};
 
 /* "V0 in millivolts is ratio·(237 + contrast)/15, from VREF 2.0 V, given as an exact numerator over 15; a resistor or
-   contrast outside its range is refused with 2." */
+   contrast outside its range is refused with 2." Order 1: "V0 in millivolts is ratio·(99 + contrast)·35/27".
+   Decision: the KS0717's is ratio·(99 + contrast)·35 over 27, not reduced. */
 uint8_t model_v0(uint8_t resistor, uint8_t contrast, uint32_t *numerator)
 {
     if (resistor > 7u || contrast > 63u) /* @v0_range */
         return 2;
-    *numerator = (uint32_t)ratios[resistor] * (237u + contrast); /* @v0_offset */
+    *numerator = (uint32_t)ratios[resistor] * (V0_BASE + contrast) * V0_FACTOR; /* @v0_offset */
     return 0;
 }
 
@@ -583,7 +632,7 @@ uint8_t model_first_difference(const uint8_t *R recorded, size_t recorded_len, c
 {
     size_t p, c;
 
-    /* 1: "a picture, memory or frame buffer is not 1,188 bytes" */
+    /* 1: "a picture, memory or frame buffer is not 1,188 bytes". Order 1: "number 1 uses 900 here" */
     if (recorded_len != PICTURE || wanted_len != PICTURE)
         return 1;
 
@@ -633,7 +682,7 @@ static size_t formula(const uint8_t *recorded, const uint8_t *wanted)
 
 uint8_t model_update_length(const uint8_t *R recorded, size_t recorded_len, const uint8_t *R wanted, size_t wanted_len, size_t *R count)
 {
-    /* 1: "a picture, memory or frame buffer is not 1,188 bytes" */
+    /* 1: "a picture, memory or frame buffer is not 1,188 bytes". Order 1: "number 1 uses 900 here" */
     if (recorded_len != PICTURE || wanted_len != PICTURE)
         return 1;
     *count = formula(recorded, wanted);
@@ -650,7 +699,7 @@ uint8_t model_update(const uint8_t *R recorded, size_t recorded_len, const uint8
     size_t need, sent, page, column, last, c;
     int page_byte_sent;
 
-    /* 1: "a picture, memory or frame buffer is not 1,188 bytes" */
+    /* 1: "a picture, memory or frame buffer is not 1,188 bytes". Order 1: "number 1 uses 900 here" */
     if (recorded_len != PICTURE || wanted_len != PICTURE)
         return 1;
     /* 5: "either output shorter than the stream needs"
@@ -680,7 +729,7 @@ uint8_t model_update(const uint8_t *R recorded, size_t recorded_len, const uint8
 
             /* "A stretch is a page byte (B0 + page), two column bytes (10 + high part, then 00 + low part), then at least
                one data byte, ending at or before column 131. The page byte is left out exactly when the stretch before
-               it in the same stream was on that page." */
+               it in the same stream was on that page." Decision: at or before column 99 on the KS0717. */
             if (!page_byte_sent) {
                 out[sent] = (uint8_t)(0xB0u + page);
                 kinds[sent] = 0;
@@ -708,20 +757,20 @@ uint8_t model_update(const uint8_t *R recorded, size_t recorded_len, const uint8
 }
 
 /* "The redraw is E3, AC, 81, contrast, then all nine pages as one stretch each, data as in the update: 4 + 9·135 = 1,219
-   bytes."
+   bytes." Order 1: "the update is at most 927 bytes and the redraw 931".
    Refusals in the order 1, 6, 5. */
 uint8_t model_redraw(const uint8_t *R wanted, size_t wanted_len, uint8_t contrast, uint8_t *R out, size_t out_len, uint8_t *R kinds, size_t kinds_len, size_t *R count)
 {
     size_t sent, page, column;
 
-    /* 1: "a picture, memory or frame buffer is not 1,188 bytes" */
+    /* 1: "a picture, memory or frame buffer is not 1,188 bytes". Order 1: "number 1 uses 900 here" */
     if (wanted_len != PICTURE)
         return 1;
     /* "A given contrast above 63 is refused with 6." */
     if (contrast > 63u) /* @redraw_six */
         return 6;
     /* 5: "either output shorter than the stream needs" */
-    if (out_len < 1219u || kinds_len < 1219u) /* @redraw_five */
+    if (out_len < REDRAW || kinds_len < REDRAW) /* @redraw_five */
         return 5;
 
     out[0] = 0xE3;

@@ -1,4 +1,7 @@
-/* An independent model of the panel software, written from document 01 alone. Plain C, no library calls.
+/* An independent model of the panel software, written from document 01 alone and, for the second chip, from order 1.
+   Plain C, no library calls.
+   Two chips, one source: the calls model_... are the KS0713's (model.c as it is), the calls model0717_... the KS0717's
+   (model.c compiled with -include ks0717.h). Registers, numbers of instructions and answers have the same form on both.
    Every function answers 0, or the number of the refusal; values go through pointers that a refusal leaves alone. */
 #ifndef MODEL_H
 #define MODEL_H
@@ -21,20 +24,31 @@ struct model_registers {
    16 SHL, 17 modify-read on (E0), 18 modify-read off (EE), 19 reset (E2), 20 nothing (E3).
    value: the field's value, 0 or 1 for a flag, 0 where there is none. */
 
-void model_power_up(struct model_registers *r);
-/* *read_flag is 1 and *byte the byte where the cycle is an accepted data or status read, else both are left alone. */
-uint8_t model_cycle(struct model_registers *r, uint8_t *memory, size_t memory_len, uint8_t kind, uint8_t value, uint8_t *read_flag, uint8_t *byte);
-uint8_t model_read_instruction(uint8_t awaited, uint8_t byte, uint8_t *number, uint8_t *value);
-/* another number than 0 to 20, or a value outside the field (also a value other than 0 where there is no field), is 6 */
-uint8_t model_write_instruction(uint8_t number, uint8_t value, uint8_t *byte);
-uint8_t model_frame(const struct model_registers *r, const uint8_t *memory, size_t memory_len, uint8_t *frame, size_t frame_len);
-/* *state: 0 normal, 1 sleep, 2 standby */
-uint8_t model_power_state(const struct model_registers *r, uint8_t *state);
-uint8_t model_v0(uint8_t resistor, uint8_t contrast, uint32_t *numerator);
-/* *found is 1 and *page, *column where there is a difference, else *found is 0 and page and column are left alone */
-uint8_t model_first_difference(const uint8_t *recorded, size_t recorded_len, const uint8_t *wanted, size_t wanted_len, uint8_t *found, size_t *page, size_t *column);
-uint8_t model_update_length(const uint8_t *recorded, size_t recorded_len, const uint8_t *wanted, size_t wanted_len, size_t *count);
-uint8_t model_update(const uint8_t *recorded, size_t recorded_len, const uint8_t *wanted, size_t wanted_len,
-                     uint8_t *out, size_t out_len, uint8_t *kinds, size_t kinds_len, size_t *count);
-uint8_t model_redraw(const uint8_t *wanted, size_t wanted_len, uint8_t contrast, uint8_t *out, size_t out_len, uint8_t *kinds, size_t kinds_len, size_t *count);
+/* The eleven calls of a chip. */
+#define MODEL_CALLS(chip) \
+void chip##_power_up(struct model_registers *r); \
+/* *read_flag is 1 and *byte the byte where the cycle is an accepted data or status read, else both are left alone. */ \
+uint8_t chip##_cycle(struct model_registers *r, uint8_t *memory, size_t memory_len, uint8_t kind, uint8_t value, \
+                     uint8_t *read_flag, uint8_t *byte); \
+uint8_t chip##_read_instruction(uint8_t awaited, uint8_t byte, uint8_t *number, uint8_t *value); \
+/* another number than 0 to 20, or a value outside the field (also a value other than 0 where there is no field), is 6 */ \
+uint8_t chip##_write_instruction(uint8_t number, uint8_t value, uint8_t *byte); \
+uint8_t chip##_frame(const struct model_registers *r, const uint8_t *memory, size_t memory_len, \
+                     uint8_t *frame, size_t frame_len); \
+/* *state: 0 normal, 1 sleep, 2 standby */ \
+uint8_t chip##_power_state(const struct model_registers *r, uint8_t *state); \
+/* *numerator is over 15 on the KS0713 and over 27 on the KS0717 */ \
+uint8_t chip##_v0(uint8_t resistor, uint8_t contrast, uint32_t *numerator); \
+/* *found is 1 and *page, *column where there is a difference, else *found is 0 and page and column are left alone */ \
+uint8_t chip##_first_difference(const uint8_t *recorded, size_t recorded_len, const uint8_t *wanted, size_t wanted_len, \
+                                uint8_t *found, size_t *page, size_t *column); \
+uint8_t chip##_update_length(const uint8_t *recorded, size_t recorded_len, const uint8_t *wanted, size_t wanted_len, \
+                             size_t *count); \
+uint8_t chip##_update(const uint8_t *recorded, size_t recorded_len, const uint8_t *wanted, size_t wanted_len, \
+                      uint8_t *out, size_t out_len, uint8_t *kinds, size_t kinds_len, size_t *count); \
+uint8_t chip##_redraw(const uint8_t *wanted, size_t wanted_len, uint8_t contrast, uint8_t *out, size_t out_len, \
+                      uint8_t *kinds, size_t kinds_len, size_t *count);
+
+MODEL_CALLS(model)
+MODEL_CALLS(model0717)
 #endif

@@ -10,6 +10,7 @@ use crate::print::told;
 use crate::print::word;
 use controller::cycle::Answer;
 use controller::cycle::cycle;
+use controller::cycle::cycle_ks0717;
 use instructions::instruction::Awaited;
 use registers::Column;
 use registers::ModifyRead;
@@ -89,10 +90,23 @@ fn after(registers: Registers, answer: Answer) -> Registers {
     }
 }
 
+// Which chip a case is played on.
+pub(crate) enum Chip {
+    Ks0713,
+    Ks0717,
+}
+
+fn cycle_of(chip: Chip, registers: Registers, memory: &mut [u8], kind: u8, value: u8) -> Answer {
+    match chip {
+        Chip::Ks0713 => cycle(registers, memory, kind, value),
+        Chip::Ks0717 => cycle_ks0717(registers, memory, kind, value),
+    }
+}
+
 // One cycle: its kind and value as in a job file, and what it answers.
-fn play(registers: Registers, memory: &mut [u8], kind: u8, value: u8) -> Registers {
+fn play(chip: Chip, registers: Registers, memory: &mut [u8], kind: u8, value: u8) -> Registers {
     pair(kind, value);
-    let answer = cycle(registers, memory, kind, value);
+    let answer = cycle_of(chip, registers, memory, kind, value);
     tell(answer);
     word(b",");
     after(registers, answer)
@@ -100,6 +114,7 @@ fn play(registers: Registers, memory: &mut [u8], kind: u8, value: u8) -> Registe
 
 // One cycle more, or with FF FF the end of a case: every register is printed, and the next case starts where this one did.
 fn turn(
+    chip: Chip,
     start: Registers,
     registers: Registers,
     memory: &mut [u8],
@@ -110,23 +125,30 @@ fn turn(
         show(registers);
         return start;
     }
-    play(registers, memory, kind, value)
+    play(chip, registers, memory, kind, value)
 }
 
 // Plays cases, each from the same registers: their cycles as in a job file, kind and value, and FF FF after each case.
-fn run_on(start: Registers, memory: &mut [u8], cases: &[u8]) {
+pub(crate) fn run_on(chip: Chip, start: Registers, memory: &mut [u8], cases: &[u8]) {
     let mut registers = start;
     let mut i = 0;
     while i < cases.len() / 2 {
-        registers = turn(start, registers, memory, cases[2 * i], cases[2 * i + 1]);
+        registers = turn(
+            chip,
+            start,
+            registers,
+            memory,
+            cases[2 * i],
+            cases[2 * i + 1],
+        );
         i += 1;
     }
 }
 
-// On a memory of zeros.
+// On the KS0713, with a memory of zeros.
 fn run(start: Registers, cases: &[u8]) {
     let mut memory = zeros();
-    run_on(start, &mut memory, cases);
+    run_on(Chip::Ks0713, start, &mut memory, cases);
 }
 
 // Page 3, column 87, start line 10, SHL 1, resistor 5, contrast 42, the indicator on with value 1.

@@ -1,5 +1,6 @@
 // The glass: frames of one lit bit, of icons, reversed, entire and off; power states; V0.
 ghost use Prim.Native.Nat.{_+_, _<_, _≤_};
+ghost use lib.ListN.{length};
 use crate::buffers::zeros;
 use crate::print::byte;
 use crate::print::line;
@@ -54,15 +55,19 @@ fn counted(lit: Lit, i: usize, lamp: u8) -> Lit
     }
 }
 
-fn summary(frame: &[u8; 1188]) {
+pub(crate) fn summary(frame: &[u8])
+    requires { ⌜ length (now frame) ≤ 1188 ⌝ }
+{
     let mut lit = Lit {
         count: 0,
         first: 0,
         value: 0,
     };
-    for i in 0..1188 {
+    let mut i = 0;
+    while i < frame.len() {
         let lamp = frame[i];
         lit = counted(lit, i, lamp);
+        i += 1;
     }
     number(lit.count);
     number(lit.first);
@@ -103,7 +108,7 @@ fn shown(memory: &[u8]) {
     drawn(b"contrast 64:", registers, memory);
 }
 
-fn named(state: PowerState) {
+pub(crate) fn named(state: PowerState) {
     match state {
         PowerState::Normal => word(b" normal"),
         PowerState::Sleep => word(b" sleep"),

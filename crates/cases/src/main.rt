@@ -2,6 +2,7 @@
 mod buffers;
 mod chip;
 mod glass_cases;
+mod ks0717;
 mod print;
 mod streams;
 
@@ -13,4 +14,12 @@ fn main() {
     glass_cases::voltages();
     streams::lengths();
     streams::redraws();
+    ks0717::heading();
+    ks0717::cycles();
+    ks0717::instructions();
+    ks0717::frames();
+    ks0717::powers();
+    ks0717::voltages();
+    ks0717::lengths();
+    ks0717::redraws();
 }

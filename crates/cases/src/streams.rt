@@ -12,7 +12,7 @@ use planner::length::update_length;
 use planner::redraw::redraw;
 use planner::update::update;
 
-fn answer(count: Count) {
+pub(crate) fn answer(count: Count) {
     match count {
         Count::Bytes(n) => {
             word(b" bytes");
@@ -23,7 +23,7 @@ fn answer(count: Count) {
     line();
 }
 
-fn found(place: Found) {
+pub(crate) fn found(place: Found) {
     match place {
         Found::At { page, column } => {
             word(b" at");

@@ -7,9 +7,8 @@ use mathlib.Core.Bool.{Bool, cond}
 use native.Mathlib.Omega.{arith}
 use native.Mathlib.Numerals.{add-one}
 use Rattle.paper.specs.Told.{given}
-use Rattle.paper.specs.Sheet.{Sensible, sheet0713}
+use Rattle.paper.specs.Sheet.{Sensible}
 use Rattle.paper.specs.declared.sheet.Sheet.{Sheet}
-use Rattle.paper.proofs.Sensible.{sensible0713}
 use Rattle.instructions.specs.Write.{writeOf}
 use Rattle.instructions.specs.Read.{readOf, awaitedFor}
 use Rattle.instructions.specs.declared.instruction.Awaited.{Awaited}
@@ -151,14 +150,6 @@ restartOf k g = record {
         ap (λ t. t .registers .contrast) f,
       );
 }
-
--- ---- the KS0713
-
-abbrev pub chip0713 : Chip 132
-chip0713 = chipOf sheet0713 sensible0713
-
-abbrev pub restart0713 : Restart chip0713
-restart0713 = restartOf sheet0713 sensible0713
 
 -- ---- registers from what a stream moved and what it left
 

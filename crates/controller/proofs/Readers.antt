@@ -12,9 +12,11 @@ use native.Mathlib.Numerals.{add-one}
 use lib.ListN.{length}
 use lib.Dec.{eqb}
 use borrow.Author.Tests.{eqb-true}
-use Rattle.paper.specs.Sheet.{Sensible}
+use Rattle.paper.specs.Sheet.{Sensible, sheet0717}
 use Rattle.paper.specs.declared.sheet.Sheet.{Sheet}
-use Rattle.paper.proofs.Cases.{chosen}
+use Rattle.paper.proofs.Cases.{chosen, less}
+use Rattle.paper.proofs.Exactly.{Exactly}
+use Rattle.paper.proofs.Sensible.{sensible0717}
 use Rattle.instructions.specs.Read.{readOf}
 use Rattle.instructions.specs.declared.instruction.Instruction.{Instruction}
 use Rattle.instructions.specs.declared.instruction.Instruction.the-variants.{ColumnLow, ColumnHigh, Page, ModifyReadOn, ModifyReadOff}
@@ -136,6 +138,18 @@ module _ (k : Sheet) (g : Sensible k) (s : State) (h : Restartable k s) where
   unfolding written
   locked-stays b l = ap (λ t. t .registers .column .0) (writes k g s b h .1) ∙ advanced-locked (k .width) (s .registers .column .0) l
 
+  -- below the width a data write adds 1
+  pub write-advances : (b : ℕ) → s .registers .column .0 < k .width → step k s (1, b) .registers .column .0 ≡ s .registers .column .0 + 1
+  unfolding written
+  write-advances b l = ap (λ t. t .registers .column .0) (writes k g s b h .1) ∙ advanced-below (k .width) (s .registers .column .0) l
+
+  -- so the column stays exactly from the width up
+  pub locks : (b : ℕ) → Exactly (step k s (1, b) .registers .column .0 ≡ s .registers .column .0) (k .width ≤ s .registers .column .0)
+  locks b = (
+    λ e. less (s .registers .column .0) (k .width) (λ l. absurd (omega (arith, write-advances b l))) (λ l. l),
+    locked-stays b,
+  )
+
   -- the column after a data read
   after-read : step k s (3, 0) .registers .column
       ≡ afterRead (k .width) (s .registers) (s .registers .«modify_read») (loaded (k .width) (s .memory) (s .registers .page) (s .registers .column .0)) .column
@@ -154,6 +168,11 @@ module _ (k : Sheet) (g : Sensible k) (s : State) (h : Restartable k s) where
   -- and wherever it stands where modify-read is on
   pub modify-read-stays : (c : Column) → s .registers .«modify_read» ≡ On c → step k s (3, 0) .registers .column ≡ s .registers .column
   modify-read-stays c e = after-read ∙ rw e refl
+
+-- the KS0717's column locks from 100: a data write leaves it exactly from there up
+pub lock-100 : (s : State) → Restartable sheet0717 s → (b : ℕ)
+    → Exactly (step sheet0717 s (1, b) .registers .column .0 ≡ s .registers .column .0) (100 ≤ s .registers .column .0)
+lock-100 s h b = locks sheet0717 sensible0717 s h b
 
 -- ---- E0, any writes, EE: the column is what it was
 

@@ -1,6 +1,6 @@
 -- What document 01 wants shut out: the same answer for all. A status read tells registers apart that differ in ADC alone.
 -- Assumes nothing.
-use Prim.Native.Nat.{ℕ}
+use Prim.Native.Nat.{ℕ, _*_}
 use mathlib.Core.Path.{_≡_, _∙_, refl, ap, sym}
 use mathlib.Core.Logic.{_≢_}
 use mathlib.Core.Bool.{true, false}
@@ -8,7 +8,8 @@ use mathlib.Core.Option.{Option, some}
 use mathlib.Core.List.{List}
 use native.Mathlib.Omega.{arith}
 use lib.ListN.{length}
-use Rattle.paper.specs.Sheet.{sheet0713}
+use Rattle.paper.specs.Sheet.{Sensible}
+use Rattle.paper.specs.declared.sheet.Sheet.{Sheet}
 use Rattle.registers.specs.Registers.{outside, withAdc, start}
 use Rattle.registers.specs.declared.Registers.{Registers}
 use Rattle.registers.proofs.InRange.{ranged}
@@ -17,20 +18,21 @@ use Rattle.controller.specs.State.{state, Restartable}
 use Rattle.controller.specs.declared.cycle.Answer.{Answer}
 use Rattle.controller.proofs.Spelled.{status-answered}
 
--- a status read of a usable chip answers the status byte of its registers
-pub status-told : (r : Registers) (m : List ℕ) (a : Answer) (left : List ℕ) → Restartable sheet0713 (state r m) → Cycled sheet0713 r m 2 0 a left
-    → outcome a .byte ≡ some (status r)
-status-told r m a left h f = ap (λ o. o .byte) (f .tells ∙ status-answered sheet0713 (state r m) (h .long) (h .ranged))
+module _ (k : Sheet) where
+  -- a status read of a usable chip answers the status byte of its registers
+  pub status-told : (r : Registers) (m : List ℕ) (a : Answer) (left : List ℕ) → Restartable k (state r m) → Cycled k r m 2 0 a left
+      → outcome a .byte ≡ some (status r)
+  status-told r m a left h f = ap (λ o. o .byte) (f .tells ∙ status-answered k (state r m) (h .long) (h .ranged))
 
-usable : (r : Registers) (m : List ℕ) → length m ≡ 1188 → outside sheet0713 r ≡ false → r .«pin_low» ≡ false → Restartable sheet0713 (state r m)
-usable r m long e high = record { long = long; ranged = e; high = high }
+  usable : (r : Registers) (m : List ℕ) → length m ≡ 9 * k .width → outside k r ≡ false → r .«pin_low» ≡ false → Restartable k (state r m)
+  usable r m long e high = record { long = long; ranged = e; high = high }
 
-pub answers-differ : (m : List ℕ) (a b : Answer) (left right : List ℕ) → length m ≡ 1188
-    → Cycled sheet0713 (start sheet0713 0 false) m 2 0 a left → Cycled sheet0713 (withAdc (start sheet0713 0 false) true) m 2 0 b right → a ≢ b
-unfolding status
-answers-differ m a b left right long f g e =
-    let p = status-told (start sheet0713 0 false) m a left (usable _ m long (ranged sheet0713 (start sheet0713 0 false) (omega arith)) refl) f in
-    let q = status-told (withAdc (start sheet0713 0 false) true) m b right (usable _ m long (ranged sheet0713 (withAdc (start sheet0713 0 false) true) (omega arith)) refl) g in
-    let s : _≡_ {A = Option ℕ} (some 96) (some 32) = sym p ∙ ap (λ x. outcome x .byte) e ∙ q in
-    let z : _≡_ {A = ℕ} 96 32 = cc in
-    omega arith
+  pub answers-differ : Sensible k → (m : List ℕ) (a b : Answer) (left right : List ℕ) → length m ≡ 9 * k .width
+      → Cycled k (start k 0 false) m 2 0 a left → Cycled k (withAdc (start k 0 false) true) m 2 0 b right → a ≢ b
+  unfolding status
+  answers-differ g m a b left right long f h e =
+      let p = status-told (start k 0 false) m a left (usable _ m long (ranged k (start k 0 false) (omega (arith, g .wide, g .first))) refl) f in
+      let q = status-told (withAdc (start k 0 false) true) m b right (usable _ m long (ranged k (withAdc (start k 0 false) true) (omega (arith, g .wide, g .first))) refl) h in
+      let s : _≡_ {A = Option ℕ} (some 96) (some 32) = sym p ∙ ap (λ x. outcome x .byte) e ∙ q in
+      let z : _≡_ {A = ℕ} 96 32 = cc in
+      omega arith

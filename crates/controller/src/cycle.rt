@@ -3,7 +3,7 @@ ghost use mathlib.Core.Path.{_≡_};
 ghost use mathlib.Core.Bool.{cond};
 ghost use Prim.Native.Nat.{_+_, _*_, _≤_};
 ghost use lib.ListN.{length};
-ghost use Rattle.paper.specs.Sheet.{Sensible, sheet0713};
+ghost use Rattle.paper.specs.Sheet.{Sensible, sheet0713, sheet0717};
 ghost use Rattle.instructions.specs.Read.{readOf};
 ghost use Rattle.controller.specs.Cycle.{status, malformed, refusal, written, afterRead, instructed, carried, kept, outcome, Cycled};
 use crate::execute::execute;
@@ -18,6 +18,7 @@ use paper::refusal::WRONG_CYCLE;
 use paper::refusal::WRONG_SIZE;
 use paper::sheet::Sheet;
 use paper::sheet::ks0713;
+use paper::sheet::ks0717;
 use registers::ModifyRead;
 use registers::Registers;
 use registers::outside_range;
@@ -154,4 +155,11 @@ pub fn cycle(registers: Registers, memory: &mut [u8], kind: u8, value: u8) -> An
     ensures { λ a. ⌜ Cycled sheet0713 registers (now (memory .entry)) kind value a (now (memory .exit)) ⌝ }
 {
     cycle_for(ks0713(), registers, memory, kind, value)
+}
+
+// Plays one bus cycle on the KS0717, as `cycle` does on the KS0713.
+pub fn cycle_ks0717(registers: Registers, memory: &mut [u8], kind: u8, value: u8) -> Answer
+    ensures { λ a. ⌜ Cycled sheet0717 registers (now (memory .entry)) kind value a (now (memory .exit)) ⌝ }
+{
+    cycle_for(ks0717(), registers, memory, kind, value)
 }

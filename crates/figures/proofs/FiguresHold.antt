@@ -12,13 +12,13 @@ use Rattle.controller.specs.Memory.{cellOf, isCell, stored, advanced}
 use Rattle.controller.specs.Cycle.{written, status, carried, kept, refusal, answer, memoryAfter}
 use Rattle.controller.specs.Run.{BusCycle}
 use Rattle.glass.specs.Dot.{lineOf}
-use Rattle.glass.specs.Voltage.{numerator}
+use Rattle.glass.specs.Voltage.{numerator, numerator0717}
 use Rattle.streams.specs.Picture.{shown, differs}
 use Rattle.streams.specs.Stretch.{onIt, address, emitBy}
 use Rattle.streams.specs.Update.{joins, join, joinIf, runs, wantedBytes, stretchOf, pageWork, workFrom, update, updateStream}
 use Rattle.streams.specs.Length.{differing, gaps, gapCost, pageLength, lengthFrom, updateLength}
-use Rattle.streams.proofs.Length.{update-length}
-use Rattle.figures.specs.Figures.{zeros, icons, Figures}
+use Rattle.streams.proofs.Length.{update-length, redraw-length}
+use Rattle.figures.specs.Figures.{zeros, icons, zeros0717, Figures0717, Figures}
 
 -- ---- the two figures of 0 bytes
 
@@ -36,6 +36,24 @@ equal-0 = refl
 page-8-0 : updateLength 132 zeros (icons 0xfe) ≡ 0
 unfolding cellOf shown differs differing gaps gapCost pageLength lengthFrom updateLength
 page-8-0 = refl
+
+-- ---- the KS0717
+
+figures0717 : Figures0717
+unfolding classOf roomIn readBy readFirst outside cellOf isCell stored advanced written carried kept refusal answer memoryAfter shown differs differing gaps gapCost pageLength lengthFrom updateLength lineOf numerator0717
+figures0717 = record {
+  resistor-up = refl;
+  resistor-low = refl;
+  last-column-memory = refl;
+  last-column = refl;
+  seven-bits = refl;
+  row-0 = refl;
+  v0-numerator = refl;
+  v0-denominator = refl;
+  v0-millivolts = refl;
+  every-cell = refl;
+  redraw = redraw-length 100 zeros0717 32;
+}
 
 -- ---- all of them
 
@@ -61,4 +79,5 @@ figures = record {
   page-8-length = page-8-0;
   v0-numerator = refl;
   v0-denominator = refl;
+  ks0717 = figures0717;
 }

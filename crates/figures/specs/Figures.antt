@@ -1,20 +1,22 @@
--- Document 01's figures marked P, in its words and order: one table, one claim. `proofs/FiguresHold.antt` proves it by computing.
+-- Document 01's figures marked P, in its words and order, and the KS0717's: one table, one claim. `proofs/FiguresHold.antt` proves it by
+-- computing.
 -- Assumes nothing.
 use Prim.Native.Nat.{ℕ, _+_, _*_}
 use mathlib.Core.Path.{_≡_}
 use mathlib.Core.Bool.{true, false}
 use mathlib.Core.Option.{Option, some}
 use mathlib.Core.List.{List, [], _∷_, _++_}
-use lib.ListN.{set, replicate}
-use Rattle.paper.specs.Sheet.{sheet0713}
+use lib.ListN.{length, set, replicate}
+use Rattle.paper.specs.Sheet.{sheet0713, sheet0717}
 use Rattle.registers.specs.Registers.{start}
 use Rattle.controller.specs.Cycle.{answer}
 use Rattle.controller.specs.Run.{BusCycle}
 use Rattle.controller.specs.State.{State, state, run}
 use Rattle.glass.specs.Dot.{lineOf}
-use Rattle.glass.specs.Voltage.{numerator, denominator}
+use Rattle.glass.specs.Voltage.{numerator, denominator, numerator0717, denominator0717}
 use Rattle.streams.specs.Update.{updateStream}
 use Rattle.streams.specs.Length.{updateLength}
+use Rattle.streams.specs.Redraw.{redrawStream}
 
 -- a picture of zeros
 abbrev pub zeros : List ℕ
@@ -44,6 +46,35 @@ spot p c v picture = set picture (132 * p + c) v
 -- page 8 full of a byte, all other pages 0
 abbrev pub icons : ℕ → List ℕ
 icons v = replicate 1056 0 ++ replicate 132 v
+
+-- ---- the KS0717
+
+abbrev pub zeros0717 : List ℕ
+zeros0717 = replicate 900 0
+
+abbrev pub after0717 : List BusCycle → State
+after0717 cycles = run sheet0717 (state (start sheet0717 0 false) zeros0717) cycles
+
+pub record Figures0717 : Type 0 where
+  -- at power-up the resistor is 4, and after pin low
+  pub resistor-up : after0717 [] .registers .resistor ≡ 4
+  pub resistor-low : after0717 (instruction 0x27 ∷ (4, 0) ∷ []) .registers .resistor ≡ 4
+  -- column 99, two writes: the first is stored, the second not; column 100
+  pub last-column-memory : after0717 (instruction 0x16 ∷ instruction 0x03 ∷ byte 5 ∷ byte 7 ∷ []) .memory ≡ set zeros0717 99 5
+  pub last-column : after0717 (instruction 0x16 ∷ instruction 0x03 ∷ byte 5 ∷ byte 7 ∷ []) .registers .column .0 ≡ 100
+  -- 1F then 0F: column 127
+  pub seven-bits : after0717 (instruction 0x1f ∷ instruction 0x0f ∷ []) .registers .column .0 ≡ 127
+  -- start 60, SHL 1, row 0: line 49
+  pub row-0 : lineOf (sheet0717 .rows) 60 true 0 ≡ 49
+  -- resistor 7, contrast 63: 362,880/27, which is 13,440 mV
+  pub v0-numerator : numerator0717 7 63 ≡ 362880
+  pub v0-denominator : denominator0717 ≡ 27
+  pub v0-millivolts : numerator0717 7 63 ≡ 13440 * denominator0717
+  -- every cell differs: 927 bytes; a redraw: 931
+  pub every-cell : updateLength 100 zeros0717 (replicate 900 1) ≡ 927
+  pub redraw : length (redrawStream 100 zeros0717 32) ≡ 931
+
+-- ---- all of them
 
 pub record Figures : Type 0 where
   -- after power-up status is 60; with the pin low 70
@@ -78,3 +109,5 @@ pub record Figures : Type 0 where
   -- resistor 7, contrast 63: 194,400/15
   pub v0-numerator : numerator 7 63 ≡ 194400
   pub v0-denominator : denominator ≡ 15
+  -- and on the KS0717
+  pub ks0717 : Figures0717

@@ -1,6 +1,6 @@
 -- A byte from its bits, and its bits.
 -- Assumes nothing.
-use mathlib.Core.Path.{_≡_, refl}
+use mathlib.Core.Path.{_≡_, refl, subst}
 use mathlib.Core.Bool.{Bool, true, false, cond}
 use Prim.Native.Nat.{ℕ, zero, suc, _+_, _*_, _/_, _%_, _^_, _≤_, _<_}
 use native.Mathlib.Nat.{two-pow-succ, one-mul, mod-eq-of-lt, pow-le-pow-right, one-le-pow, pow-succ', div-one, div-eq-of-lt, div-div-eq-div-mul, le-of-suc-le-suc, not-suc-le-zero}
@@ -8,6 +8,7 @@ use native.Mathlib.Numerals.{add-one}
 use native.Mathlib.Omega.{arith}
 use lib.Dec.{lit<, eqb}
 use borrow.Author.Tests.{eq-eqb, ne-eqb}
+use Rattle.paper.proofs.Cases.{less}
 use Rattle.glass.specs.Bit.{bitOf, sumOf}
 
 one-more : (b : Bool) (x p q : ℕ) → x < p → q ≡ p + p → x + cond b p 0 < q
@@ -50,6 +51,14 @@ pub sum-same : (f g : ℕ → Bool) (n : ℕ) → ((k : ℕ) → k < n → f k �
 unfolding sumOf
 sum-same f g zero h = refl
 sum-same f g (suc n) h = rw (sum-same f g n (λ k lt. h k (omega arith)), h n (omega arith))
+
+-- bits of which none from n on is set
+pub lowest : (f : ℕ → Bool) (n k : ℕ) → n ≤ k → ((b : ℕ) → n ≤ b → b < k → f b ≡ false) → sumOf f k < 2 ^ n
+unfolding sumOf
+lowest f n zero h e = omega (arith, one-le-pow n 2 (lit< tt))
+lowest f n (suc k) h e = less n (suc k)
+    (λ l. rw (e k (omega arith) (omega arith)) (omega (arith, lowest f n k (omega arith) (λ b a c. e b a (omega arith)))))
+    (λ l. subst (λ (x : ℕ). sumOf f (suc k) < 2 ^ x) (let q : suc k ≡ n = omega arith in q) (below f (suc k)))
 
 -- the lowest bit, and twice the others
 shifted : (f : ℕ → Bool) (n : ℕ) → sumOf f (suc n) ≡ cond (f 0) 1 0 + 2 * sumOf (λ k. f (suc k)) n

@@ -1,20 +1,20 @@
--- What frame, power_state and v0 promise fixes their answers: what is told of an answer tells all answers apart, since it has an inverse.
+-- What frame, power_state and both v0 promise fixes their answers: what is told of an answer tells all answers apart, since it has an inverse.
 -- And each number is given exactly when its line of document 01's table holds and none earlier does. No refusal is 0.
 -- Assumes nothing.
-use Prim.Native.Nat.{ℕ, _*_, _<_}
+use Prim.Native.Nat.{ℕ, _+_, _*_, _<_}
 use mathlib.Core.Path.{_≡_, _∙_, refl, ap, sym, subst}
 use mathlib.Core.Logic.{_≢_, _⊎_, inl, inr}
 use mathlib.Core.Bool.{Bool, true, false, cond, not, _||_}
 use mathlib.Core.List.{List}
 use mathlib.Core.Option.{none}
 use native.Mathlib.Omega.{arith}
-use lib.ListN.{length}
+use lib.ListN.{length, getD}
 use lib.Dec.{ltb, eqb}
 use borrow.Author.Tests.{ltb-true, lt-ltb, eqb-false, eq-eqb, ne-eqb, not-true}
 use Rattle.paper.specs.Refusal.{wrongSize, outOfRange}
 use Rattle.paper.specs.Told.{Told, given, refused}
 use Rattle.paper.specs.declared.sheet.Sheet.{Sheet}
-use Rattle.paper.proofs.Telling.{apart, answerOf, not-given}
+use Rattle.paper.proofs.Telling.{apart, answerOf, not-given, given-by}
 use Rattle.paper.proofs.Answering.{refused-number}
 use Rattle.paper.proofs.Either.{either, or-true}
 use Rattle.paper.proofs.Exactly.{Exactly}
@@ -22,13 +22,15 @@ use Rattle.registers.specs.Registers.{outside}
 use Rattle.registers.specs.declared.Registers.{Registers}
 use Rattle.glass.specs.Frame.{frameOf, refusal, toldShown, IsShown}
 use Rattle.glass.specs.Power.{powerOf, toldPower, IsPower}
-use Rattle.glass.specs.Voltage.{Fraction, v0Of, toldVoltage, IsVoltage}
+use Rattle.glass.specs.Voltage.{Fraction, v0Of, toldVoltage, IsVoltage, ratios0717, numerator0717, v0Of0717, toldVoltage0717, IsVoltage0717}
 use Rattle.glass.specs.declared.frame.Shown.{Shown}
 use Rattle.glass.specs.declared.frame.Shown.the-variants as shown
 use Rattle.glass.specs.declared.power.Powered.{Powered}
 use Rattle.glass.specs.declared.power.Powered.the-variants as powered
 use Rattle.glass.specs.declared.voltage.Voltage.{Voltage}
 use Rattle.glass.specs.declared.voltage.Voltage.the-variants as voltage
+use Rattle.glass.specs.declared.voltage.Voltage0717.{Voltage0717}
+use Rattle.glass.specs.declared.voltage.Voltage0717.the-variants as v0717
 use Rattle.glass.proofs.Places.{right-sizes}
 
 -- ---- an answer that is refused with one number where a test holds, and else given
@@ -72,6 +74,36 @@ module _ {c : Sheet} {r : Registers} where
 
 -- ---- V0
 
+-- resistor or contrast is outside its range
+abbrev pub Beyond : ℕ → ℕ → Type 0
+Beyond k v = (7 < k) ⊎ (63 < v)
+
+-- what is told of V0, whichever chip's it is: refused with 2 exactly if resistor or contrast is outside its range
+module _ (k v : ℕ) (x : Fraction) where
+  told-beyond : {n : ℕ} → refused n ≡ cond (ltb 7 k || ltb 63 v) (refused outOfRange) (given x) → (n ≡ outOfRange) × Beyond k v
+  told-beyond {n} e =
+      let p = only (ltb 7 k || ltb 63 v) outOfRange n x e in
+      (p .0, beyond (either (ltb 7 k) (ltb 63 v) (p .1)))
+    where
+      beyond : (ltb 7 k ≡ true) ⊎ (ltb 63 v ≡ true) → Beyond k v
+      beyond (inl e) = inl (ltb-true 7 k e)
+      beyond (inr e) = inr (ltb-true 63 v e)
+
+  beyond-told : {t : Told Fraction} → Beyond k v → t ≡ cond (ltb 7 k || ltb 63 v) (refused outOfRange) (given x) → t ≡ refused outOfRange
+  beyond-told h e = rw (or-true (ltb 7 k) (ltb 63 v) (tests h)) at e
+    where
+      tests : Beyond k v → (ltb 7 k ≡ true) ⊎ (ltb 63 v ≡ true)
+      tests (inl h) = inl (lt-ltb 7 k h)
+      tests (inr h) = inr (lt-ltb 63 v h)
+
+  -- so of an answer of which so much is told, where it has an inverse and a refusal is told as one
+  beyond-2 : {A : Type 0} (told : A → Told Fraction) (refuse : ℕ → A) → ((a b : A) → told a ≡ told b → a ≡ b) → told (refuse outOfRange) ≡ refused outOfRange
+      → (a : A) → told a ≡ cond (ltb 7 k || ltb 63 v) (refused outOfRange) (given x) → Exactly (a ≡ refuse outOfRange) (Beyond k v)
+  beyond-2 told refuse back n a f = (
+    (λ e. told-beyond (sym n ∙ sym (ap told e) ∙ f) .1),
+    (λ h. back a (refuse outOfRange) (beyond-told h f ∙ sym n)),
+  )
+
 -- the numerator tells how many fifteenths
 abbrev fifteenths : Fraction → Voltage
 fifteenths f = voltage.Fifteenths (f .numerator)
@@ -88,27 +120,43 @@ module _ {k v : ℕ} where
   voltage-one {a} {b} f g = voltage-told a b (f .tells ∙ sym (g .tells))
 
   -- no number but 2, and 2 exactly if resistor or contrast is outside its range
-  pub voltage-number : {n : ℕ} → IsVoltage k v (voltage.Refused n) → (n ≡ outOfRange) × ((7 < k) ⊎ (63 < v))
-  voltage-number {n} f =
-      let p = only (ltb 7 k || ltb 63 v) outOfRange n (v0Of k v) (f .tells) in
-      (p .0, beyond (either (ltb 7 k) (ltb 63 v) (p .1)))
-    where
-      beyond : (ltb 7 k ≡ true) ⊎ (ltb 63 v ≡ true) → (7 < k) ⊎ (63 < v)
-      beyond (inl e) = inl (ltb-true 7 k e)
-      beyond (inr e) = inr (ltb-true 63 v e)
+  pub voltage-number : {n : ℕ} → IsVoltage k v (voltage.Refused n) → (n ≡ outOfRange) × Beyond k v
+  voltage-number f = told-beyond k v (v0Of k v) (f .tells)
 
-  pub voltage-2 : {a : Voltage} → IsVoltage k v a → Exactly (a ≡ voltage.Refused outOfRange) ((7 < k) ⊎ (63 < v))
-  voltage-2 {a} f = (
-    (λ e. voltage-number (subst (IsVoltage k v) e f) .1),
-    (λ h. voltage-told a (voltage.Refused outOfRange) (rw (or-true (ltb 7 k) (ltb 63 v) (tests h)) at (f .tells))),
-  )
-    where
-      tests : (7 < k) ⊎ (63 < v) → (ltb 7 k ≡ true) ⊎ (ltb 63 v ≡ true)
-      tests (inl h) = inl (lt-ltb 7 k h)
-      tests (inr h) = inr (lt-ltb 63 v h)
+  pub voltage-2 : {a : Voltage} → IsVoltage k v a → Exactly (a ≡ voltage.Refused outOfRange) (Beyond k v)
+  voltage-2 {a} f = beyond-2 k v (v0Of k v) toldVoltage voltage.Refused voltage-told refl a (f .tells)
 
   pub voltage-not-0 : {n : ℕ} → IsVoltage k v (voltage.Refused n) → n ≢ 0
   voltage-not-0 f z = omega (arith, voltage-number f .0)
+
+-- and how many twenty-sevenths
+abbrev twentySevenths : Fraction → Voltage0717
+twentySevenths f = v0717.TwentySevenths (f .numerator)
+
+voltage-0717-back : (a : Voltage0717) → answerOf twentySevenths v0717.Refused (toldVoltage0717 a) ≡ a
+voltage-0717-back (v0717.TwentySevenths v) = refl
+voltage-0717-back (v0717.Refused n) = refl
+
+voltage-0717-told : (a b : Voltage0717) → toldVoltage0717 a ≡ toldVoltage0717 b → a ≡ b
+voltage-0717-told = apart toldVoltage0717 (answerOf twentySevenths v0717.Refused) voltage-0717-back
+
+module _ {k v : ℕ} where
+  pub voltage-0717-one : {a b : Voltage0717} → IsVoltage0717 k v a → IsVoltage0717 k v b → a ≡ b
+  voltage-0717-one {a} {b} f g = voltage-0717-told a b (f .tells ∙ sym (g .tells))
+
+  -- a number of twenty-sevenths is V0's: 27 · V0 = ratio · (99 + contrast) · 35
+  pub v0-0717 : {n : ℕ} → IsVoltage0717 k v (v0717.TwentySevenths n) → n ≡ getD ratios0717 k 0 * (99 + v) * 35
+  unfolding numerator0717
+  v0-0717 f = ap (λ x. x .numerator) (given-by (ltb 7 k || ltb 63 v) outOfRange (f .tells))
+
+  pub voltage-0717-number : {n : ℕ} → IsVoltage0717 k v (v0717.Refused n) → (n ≡ outOfRange) × Beyond k v
+  voltage-0717-number f = told-beyond k v (v0Of0717 k v) (f .tells)
+
+  pub voltage-0717-2 : {a : Voltage0717} → IsVoltage0717 k v a → Exactly (a ≡ v0717.Refused outOfRange) (Beyond k v)
+  voltage-0717-2 {a} f = beyond-2 k v (v0Of0717 k v) toldVoltage0717 v0717.Refused voltage-0717-told refl a (f .tells)
+
+  pub voltage-0717-not-0 : {n : ℕ} → IsVoltage0717 k v (v0717.Refused n) → n ≢ 0
+  voltage-0717-not-0 f z = omega (arith, voltage-0717-number f .0)
 
 -- ---- the frame
 

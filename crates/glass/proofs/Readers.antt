@@ -1,17 +1,17 @@
 -- What the lit frame says of its dots, so that a reader opens no definition: over any chip's sheet, of which only sense is asked.
 -- Assumes nothing.
-use Prim.Native.Nat.{ℕ, _+_, _-_, _*_, _/_, _%_, _≤_, _<_}
+use Prim.Native.Nat.{ℕ, _+_, _-_, _*_, _/_, _%_, _^_, _≤_, _<_}
 use mathlib.Core.Path.{_≡_, _∙_, refl, ap}
 use mathlib.Core.Logic.{_≢_}
-use mathlib.Core.Bool.{Bool, true, false, not}
+use mathlib.Core.Bool.{Bool, true, false, cond, not, _||_}
 use mathlib.Core.List.{List}
 use native.Mathlib.Nat.{mul-add-div, mul-add-mod-self-left, mod-eq-of-lt, div-eq-of-lt, add-zero}
 use native.Mathlib.Decide.{decLt}
 use native.Mathlib.Omega.{arith}
 use lib.ListN.{length, getD, replicate}
-use lib.Dec.{ltb, eqb}
+use lib.Dec.{lit≤, ltb, eqb}
 use borrow.Author.Tests.{lt-ltb, le-ltb, ne-eqb}
-use Rattle.paper.specs.Sheet.{Sensible, sheet0713}
+use Rattle.paper.specs.Sheet.{Sensible, sheet0713, sheet0717}
 use Rattle.paper.specs.declared.sheet.Sheet.{Sheet}
 use Rattle.paper.proofs.Cases.{chosen}
 use Rattle.paper.proofs.Listed.{at, length-listed, listed-same}
@@ -21,7 +21,13 @@ use Rattle.controller.proofs.Cells.{place}
 use Rattle.glass.specs.Bit.{bitOf, sumOf}
 use Rattle.glass.specs.Dot.{lineOf, columnOf, dotOf, dotAt, litOf}
 use Rattle.glass.specs.Frame.{stripByte, frameOf}
-use Rattle.glass.proofs.Bits.{bit-is, sum-same}
+use Rattle.glass.specs.Voltage.{ratios0717, numerator0717, denominator0717}
+use Rattle.glass.proofs.Bits.{bit-is, sum-same, lowest}
+
+or-cond : (a b : Bool) → cond a true (cond b true false) ≡ (a || b)
+or-cond true b = refl
+or-cond false true = refl
+or-cond false false = refl
 
 module _ (c : Sheet) (r : Registers) (m : List ℕ) where
   -- ---- the bytes of the frame
@@ -49,6 +55,20 @@ module _ (c : Sheet) (r : Registers) (m : List ℕ) where
   unfolding litOf
   no-row k s le ne = rw (le-ltb k (c .rows) le, ne-eqb k 64 ne)
 
+  -- a strip of which no row is there is 0
+  pub dark-strip : (t s : ℕ) → c .rows ≤ 8 * t → t < 8 → s < c .width → getD (frameOf c r m) (c .width * t + s) 0 ≡ 0
+  unfolding stripByte sumOf
+  dark-strip t s le lt hs =
+      strip-at t s (omega arith) hs
+      ∙ sum-same (λ (b : ℕ). litOf c r m (8 * t + b) s) (λ (b : ℕ). false) 8 (λ b h. no-row (8 * t + b) s (omega arith) (λ e. omega arith))
+
+  -- and one of which n rows are there is below 2 to the n
+  pub low-strip : (t s n : ℕ) → n ≤ 8 → c .rows ≤ 8 * t + n → t < 8 → s < c .width → getD (frameOf c r m) (c .width * t + s) 0 < 2 ^ n
+  unfolding stripByte
+  low-strip t s n hn le lt hs =
+      let f : ℕ → Bool = λ b. litOf c r m (8 * t + b) s in
+      rw (strip-at t s (omega arith) hs) (lowest f n 8 hn (λ b a h. no-row (8 * t + b) s (omega arith) (λ e. omega arith)))
+
   -- strip 8's bits 1 to 7 are 0
   pub strip-8 : Sensible c → (s b : ℕ) → s < c .width → 1 ≤ b → b < 8 → bitOf (getD (frameOf c r m) (c .width * 8 + s) 0) b ≡ false
   strip-8 h s b hs hb lt = dot-at 8 s b (omega arith) hs lt ∙ no-row (8 * 8 + b) s (omega (arith, h .lines)) (λ e. omega arith)
@@ -74,6 +94,11 @@ module _ (c : Sheet) (r : Registers) (m : List ℕ) where
   pub entire-icon : r .on ≡ true → r .entire ≡ true → (s : ℕ) → litOf c r m 64 s ≡ true
   unfolding litOf dotAt dotOf
   entire-icon h e s = chosen (λ (d : Bool). d ≡ true) (ltb 64 (c .rows)) (rw (h, e)) (rw (h, e))
+
+  -- and nothing else
+  pub entire-only : r .on ≡ true → r .entire ≡ true → (k s : ℕ) → litOf c r m k s ≡ (ltb k (c .rows) || eqb k 64)
+  unfolding litOf dotAt dotOf
+  entire-only h e k s = rw (h, e) (or-cond (ltb k (c .rows)) (eqb k 64))
 
   -- reverse turns each dot of a display that is on and not entire, the icon row too
   pub reverse-turns : r .on ≡ true → r .entire ≡ false → (k s : ℕ) → k < c .rows
@@ -123,3 +148,39 @@ entire-65 r m h e k s le = row (decLt k 64)
     row : Dec (k < 64) → litOf sheet0713 r m k s ≡ true
     row (yes lt) = entire-lit sheet0713 r m h e k s lt
     row (no ge) = let q : k ≡ 64 = omega arith in rw q (entire-icon sheet0713 r m h e s)
+
+-- ---- the KS0717
+
+module _ (r : Registers) (m : List ℕ) where
+  -- rows 54 to 63 are dark, whatever the registers say: of the frame, strip 7 is 0, and of strip 6 bits 6 and 7
+  pub rows-dark : (k s : ℕ) → 54 ≤ k → k < 64 → litOf sheet0717 r m k s ≡ false
+  rows-dark k s le lt = no-row sheet0717 r m k s le (λ e. omega arith)
+
+  pub strip-7 : (s : ℕ) → s < 100 → getD (frameOf sheet0717 r m) (100 * 7 + s) 0 ≡ 0
+  strip-7 s hs = dark-strip sheet0717 r m 7 s (lit≤ tt) (lit≤ tt) hs
+
+  pub strip-6 : (s : ℕ) → s < 100 → getD (frameOf sheet0717 r m) (100 * 6 + s) 0 < 64
+  strip-6 s hs = low-strip sheet0717 r m 6 s 6 (lit≤ tt) (lit≤ tt) (lit≤ tt) hs
+
+  -- entire display lights rows 0 to 53 and the icon row, and nothing else
+  pub entire-55 : r .on ≡ true → r .entire ≡ true → (k s : ℕ) → litOf sheet0717 r m k s ≡ (ltb k 54 || eqb k 64)
+  entire-55 h e k s = entire-only sheet0717 r m h e k s
+
+  -- with SHL row k shows line (start + 53 - k) mod 64
+  pub back-53 : r .shl ≡ true → (k s : ℕ) → k < 54 → litOf sheet0717 r m k s ≡ dotAt 100 r m ((r .«start_line» + (53 - k)) % 64) s
+  back-53 h k s lt = row-shows-back sheet0717 r m h k s lt
+
+  -- with ADC 1 segment s shows column 99 - s
+  pub adc-99 : (k s : ℕ) → litOf sheet0717 (withAdc r true) m k s ≡ litOf sheet0717 (withAdc r false) m k (99 - s)
+  adc-99 k s = adc-mirrors sheet0717 r m k s
+
+-- V0 is what 001 has: (1 + Rb/Ra) · (1 - (63 - contrast) / 162) · 2,100 mV (its equations 1 and 2), with the ratio in tenths
+pub v0-from-001 : (resistor contrast : ℕ) → contrast ≤ 63
+    → numerator0717 resistor contrast * (10 * 162) ≡ getD ratios0717 resistor 0 * (162 - (63 - contrast)) * 2100 * denominator0717
+unfolding numerator0717
+v0-from-001 resistor contrast h =
+    let a : 162 - (63 - contrast) ≡ 99 + contrast = omega arith in
+    rw a (both-ways (getD ratios0717 resistor 0 * (99 + contrast)))
+  where
+    both-ways : (x : ℕ) → x * 35 * (10 * 162) ≡ x * 2100 * 27
+    both-ways x = omega arith

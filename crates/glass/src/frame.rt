@@ -2,7 +2,7 @@
 ghost use mathlib.Core.Path.{_≡_};
 ghost use Prim.Native.Nat.{_*_, _<_, _≤_};
 ghost use lib.ListN.{length};
-ghost use Rattle.paper.specs.Sheet.{Sensible, sheet0713};
+ghost use Rattle.paper.specs.Sheet.{Sensible, sheet0713, sheet0717};
 ghost use Rattle.glass.specs.Frame.{stripByte, frameOf, refusal, IsShown};
 use crate::bit::weight;
 use crate::dot::lit;
@@ -10,6 +10,7 @@ use paper::refusal::OUT_OF_RANGE;
 use paper::refusal::WRONG_SIZE;
 use paper::sheet::Sheet;
 use paper::sheet::ks0713;
+use paper::sheet::ks0717;
 use registers::Registers;
 use registers::outside_range;
 
@@ -92,4 +93,11 @@ pub fn frame(registers: Registers, memory: &[u8], out: &mut [u8]) -> Shown
     ensures { λ a. ⌜ IsShown sheet0713 registers (now (memory .entry)) (now (out .entry)) a (now (out .exit)) ⌝ }
 {
     frame_for(ks0713(), registers, memory, out)
+}
+
+// Draws the lit frame of the KS0717, as `frame` does the KS0713's; rows 54 to 63 are dark.
+pub fn frame_ks0717(registers: Registers, memory: &[u8], out: &mut [u8]) -> Shown
+    ensures { λ a. ⌜ IsShown sheet0717 registers (now (memory .entry)) (now (out .entry)) a (now (out .exit)) ⌝ }
+{
+    frame_for(ks0717(), registers, memory, out)
 }

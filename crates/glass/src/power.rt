@@ -1,10 +1,11 @@
 // The power state.
 ghost use mathlib.Core.Path.{_≡_};
-ghost use Rattle.paper.specs.Sheet.{sheet0713};
+ghost use Rattle.paper.specs.Sheet.{sheet0713, sheet0717};
 ghost use Rattle.glass.specs.Power.{powerOf, IsPower};
 use paper::refusal::OUT_OF_RANGE;
 use paper::sheet::Sheet;
 use paper::sheet::ks0713;
+use paper::sheet::ks0717;
 use registers::Registers;
 use registers::outside_range;
 
@@ -48,4 +49,11 @@ pub fn power_state(registers: Registers) -> Powered
     ensures { λ a. ⌜ IsPower sheet0713 registers a ⌝ }
 {
     power_for(ks0713(), registers)
+}
+
+// The power state of the KS0717. Refuses with 2.
+pub fn power_state_ks0717(registers: Registers) -> Powered
+    ensures { λ a. ⌜ IsPower sheet0717 registers a ⌝ }
+{
+    power_for(ks0717(), registers)
 }

@@ -9,10 +9,11 @@ use native.Mathlib.Omega.{arith}
 use lib.Dec.{T, eqb, eqb→eq}
 use Rattle.paper.specs.Refusal.{unassigned}
 use Rattle.paper.specs.Told.{Told, given, refused}
-use Rattle.paper.specs.Sheet.{Sensible, sheet0713}
+use Rattle.paper.specs.Sheet.{Sensible, sheet0713, sheet0717}
 use Rattle.paper.specs.declared.sheet.Sheet.{Sheet}
 use Rattle.paper.proofs.Every.{every, at, left, right}
-use Rattle.paper.proofs.Sensible.{sensible0713}
+use Rattle.paper.proofs.Exactly.{Exactly}
+use Rattle.paper.proofs.Sensible.{sensible0713, sensible0717}
 use Rattle.paper.proofs.Telling.{told-is}
 use Rattle.instructions.specs.Write.{fieldOf, flagOf, writeOf}
 use Rattle.instructions.specs.Read.{classOf, roomIn, readBy, readFirst, readOf, assigned, plain, again, nothingAwaited, awaitedFor}
@@ -51,9 +52,25 @@ is-same s t h =
 first : Sheet → ℕ → Bool
 first k b = same (again k (readFirst k b)) (cond (assigned b) (given (plain k b)) (refused unassigned))
 
-pub first-again : (b : ℕ) → b < 256 → again sheet0713 (readOf sheet0713 awaited.Nothing b) ≡ cond (assigned b) (given (plain sheet0713 b)) (refused unassigned)
+abbrev pub FirstAgain : Sheet → Type 0
+FirstAgain k = (b : ℕ) → b < 256 → again k (readOf k awaited.Nothing b) ≡ cond (assigned b) (given (plain k b)) (refused unassigned)
+
+first-by : (k : Sheet) → T (every (first k) 0 256) → FirstAgain k
+unfolding first
+first-by k all b h = is-same _ _ (at (first k) 256 all b h)
+
+pub first-again : FirstAgain sheet0713
 unfolding first same sameByte readFirst readBy classOf roomIn fieldOf flagOf assigned plain
-first-again b h = is-same _ _ (at (first sheet0713) 256 tt b h)
+first-again = first-by sheet0713 tt
+
+pub first-again-0717 : FirstAgain sheet0717
+unfolding first same sameByte readFirst readBy classOf roomIn fieldOf flagOf assigned plain
+first-again-0717 = first-by sheet0717 tt
+
+-- on the KS0717 bit 3 of a high column byte is free: 18-1F are 10-17 with it 0
+pub high-plain : (v : ℕ) → v < 8 → plain sheet0717 (0x18 + v) ≡ 0x10 + v
+unfolding plain roomIn
+high-plain v h = eqb→eq _ _ (at (λ (x : ℕ). eqb (plain sheet0717 (0x18 + x)) (0x10 + x)) 8 tt v h)
 
 -- an awaited second byte, whatever its value: its free bits are those above its field
 pub contrast-again : (k : Sheet) (b : ℕ) → again k (readOf k awaited.Contrast b) ≡ given (b % 64)
@@ -135,8 +152,17 @@ module _ (k : Sheet) (g : Sensible k) (all : T (every (agree k) 0 256)) (b : ℕ
   pub is-read : (i : Instruction) → (awaitedFor i ≡ awaited.Nothing) × (writeOf k i ≡ given (plain k b)) → readOf k awaited.Nothing b ≡ given i
   is-read i p = read-there (readFirst k b .value) refl i (there i (p .0) (p .1))
 
-pub pinned : (b : ℕ) → b < 256 → (i : Instruction)
-    → (readOf sheet0713 awaited.Nothing b ≡ given i → (awaitedFor i ≡ awaited.Nothing) × (writeOf sheet0713 i ≡ given (plain sheet0713 b)))
-    × ((awaitedFor i ≡ awaited.Nothing) × (writeOf sheet0713 i ≡ given (plain sheet0713 b)) → readOf sheet0713 awaited.Nothing b ≡ given i)
+abbrev pub IsPinned : Sheet → Type 0
+IsPinned k = (b : ℕ) → b < 256 → (i : Instruction)
+    → Exactly (readOf k awaited.Nothing b ≡ given i) ((awaitedFor i ≡ awaited.Nothing) × (writeOf k i ≡ given (plain k b)))
+
+pinned-by : (k : Sheet) → Sensible k → T (every (agree k) 0 256) → IsPinned k
+pinned-by k g all b h i = (read-is k g all b h i, is-read k g all b h i)
+
+pub pinned : IsPinned sheet0713
 unfolding whole bothOrNone same sameByte readFirst readBy classOf roomIn fieldOf flagOf plain
-pinned b h i = (read-is sheet0713 sensible0713 tt b h i, is-read sheet0713 sensible0713 tt b h i)
+pinned = pinned-by sheet0713 sensible0713 tt
+
+pub pinned-0717 : IsPinned sheet0717
+unfolding whole bothOrNone same sameByte readFirst readBy classOf roomIn fieldOf flagOf plain
+pinned-0717 = pinned-by sheet0717 sensible0717 tt

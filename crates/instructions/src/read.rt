@@ -1,6 +1,6 @@
 // The reader: one byte, with what is awaited.
 ghost use mathlib.Core.Path.{_≡_};
-ghost use Rattle.paper.specs.Sheet.{sheet0713};
+ghost use Rattle.paper.specs.Sheet.{sheet0713, sheet0717};
 ghost use Rattle.instructions.specs.Read.{roomIn, readBy, toldReading, IsRead};
 use crate::class::class_of;
 use crate::instruction::Awaited;
@@ -8,6 +8,7 @@ use crate::instruction::Instruction;
 use paper::refusal::UNASSIGNED;
 use paper::sheet::Sheet;
 use paper::sheet::ks0713;
+use paper::sheet::ks0717;
 
 // What a byte is read as, or the number of the refusal.
 pub enum Reading {
@@ -69,4 +70,11 @@ pub fn read_instruction(awaited: Awaited, byte: u8) -> Reading
     ensures { λ r. ⌜ IsRead sheet0713 awaited byte r ⌝ }
 {
     read_for(ks0713(), awaited, byte)
+}
+
+// Reads one byte of the KS0717, with what is awaited. Refuses with 4.
+pub fn read_ks0717(awaited: Awaited, byte: u8) -> Reading
+    ensures { λ r. ⌜ IsRead sheet0717 awaited byte r ⌝ }
+{
+    read_for(ks0717(), awaited, byte)
 }

@@ -1,12 +1,13 @@
 // The writer: one instruction, as one byte with its free bits 0.
 ghost use mathlib.Core.Path.{_≡_};
 ghost use Prim.Native.Nat.{_+_, _≤_};
-ghost use Rattle.paper.specs.Sheet.{sheet0713, Sensible};
+ghost use Rattle.paper.specs.Sheet.{sheet0713, sheet0717, Sensible};
 ghost use Rattle.instructions.specs.Write.{fieldOf, flagOf, toldWriting, IsWritten};
 use crate::instruction::Instruction;
 use paper::refusal::OUTSIDE_FIELD;
 use paper::sheet::Sheet;
 use paper::sheet::ks0713;
+use paper::sheet::ks0717;
 
 // What an instruction is written as, or the number of the refusal.
 pub enum Writing {
@@ -69,4 +70,11 @@ pub fn write_instruction(instruction: Instruction) -> Writing
     ensures { λ r. ⌜ IsWritten sheet0713 instruction r ⌝ }
 {
     write_for(ks0713(), instruction)
+}
+
+// Writes one instruction of the KS0717 as a byte with its free bits 0. Refuses with 6.
+pub fn write_ks0717(instruction: Instruction) -> Writing
+    ensures { λ r. ⌜ IsWritten sheet0717 instruction r ⌝ }
+{
+    write_for(ks0717(), instruction)
 }

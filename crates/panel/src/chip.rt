@@ -1,11 +1,13 @@
-// The chip over its packed state: power-up, one cycle, the lit frame, the power state and V0.
-ghost use mathlib.Core.Path.{_≡_};
-ghost use Rattle.panel.specs.Chip.{PowerUpOut, CycledOn, CycleOut, ShownOn, FrameOut, powerByte, PoweredOn, PowerOut, VoltageOut};
+// The KS0713 over its packed state: power-up, one cycle, the lit frame, the power state and V0.
+ghost use Rattle.paper.specs.Sheet.{sheet0713};
+ghost use Rattle.face.specs.Chip.{PowerUpOut, CycledOn, CycleOut, ShownOn, FrameOut, PoweredOn, PowerOut, VoltageOut};
 use controller::cycle::Answer;
 use controller::cycle::cycle;
+use face::chip::tell_cycle;
+use face::chip::tell_frame;
+use face::chip::tell_power;
 use glass::frame::Shown;
 use glass::frame::frame;
-use glass::power::PowerState;
 use glass::power::Powered;
 use glass::power::power_state;
 use glass::voltage::Voltage;
@@ -22,7 +24,7 @@ use state::unfit::unfit_number;
 // The state at power-up. Refuses nothing.
 #[no_mangle]
 pub extern "C" fn panel_power_up(state: &mut State) -> u8
-    ensures { λ r. ⌜ PowerUpOut (now (state .exit)) r ⌝ }
+    ensures { λ r. ⌜ PowerUpOut sheet0713 (now (state .exit)) r ⌝ }
 {
     *state = pack(power_up());
     0
@@ -30,7 +32,7 @@ pub extern "C" fn panel_power_up(state: &mut State) -> u8
 
 // One cycle on the registers that the state stands for.
 fn cycle_on(state: &State, memory: &mut [u8], kind: u8, value: u8) -> Answer
-    ensures { λ a. ⌜ CycledOn (now (state .entry)) (now (memory .entry)) kind value a (now (memory .exit)) ⌝ }
+    ensures { λ a. ⌜ CycledOn sheet0713 (now (state .entry)) (now (memory .entry)) kind value a (now (memory .exit)) ⌝ }
 {
     let size = 9 * ks0713().width;
     if is_unfit(state) {
@@ -49,32 +51,15 @@ pub extern "C" fn panel_cycle(
     read: &mut u8,
     byte: &mut u8,
 ) -> u8
-    ensures { λ r. ⌜ CycleOut (now (state .entry)) (now (memory .entry)) kind value (now (read .entry)) (now (byte .entry))
+    ensures { λ r. ⌜ CycleOut sheet0713 (now (state .entry)) (now (memory .entry)) kind value (now (read .entry)) (now (byte .entry))
         (now (state .exit)) (now (memory .exit)) (now (read .exit)) (now (byte .exit)) r ⌝ }
 {
-    match cycle_on(&*state, memory, kind, value) {
-        Answer::Done(after) => {
-            *state = pack(after);
-            0
-        }
-        Answer::Status(status) => {
-            *read = 1;
-            *byte = status;
-            0
-        }
-        Answer::Read(after, holder) => {
-            *state = pack(after);
-            *read = 1;
-            *byte = holder;
-            0
-        }
-        Answer::Refused(number) => number,
-    }
+    tell_cycle(cycle_on(&*state, memory, kind, value), state, read, byte)
 }
 
 // The lit frame of the registers that the state stands for.
 fn frame_on(state: &State, memory: &[u8], out: &mut [u8]) -> Shown
-    ensures { λ a. ⌜ ShownOn (now (state .entry)) (now (memory .entry)) (now (out .entry)) a (now (out .exit)) ⌝ }
+    ensures { λ a. ⌜ ShownOn sheet0713 (now (state .entry)) (now (memory .entry)) (now (out .entry)) a (now (out .exit)) ⌝ }
 {
     let size = 9 * ks0713().width;
     if is_unfit(state) {
@@ -86,28 +71,14 @@ fn frame_on(state: &State, memory: &[u8], out: &mut [u8]) -> Shown
 // Draws the lit frame. Refuses with 1, 2.
 #[no_mangle]
 pub extern "C" fn panel_frame(state: &State, memory: &[u8], frame: &mut [u8]) -> u8
-    ensures { λ r. ⌜ FrameOut (now (state .entry)) (now (memory .entry)) (now (frame .entry)) (now (frame .exit)) r ⌝ }
+    ensures { λ r. ⌜ FrameOut sheet0713 (now (state .entry)) (now (memory .entry)) (now (frame .entry)) (now (frame .exit)) r ⌝ }
 {
-    match frame_on(state, memory, frame) {
-        Shown::Drawn => 0,
-        Shown::Refused(number) => number,
-    }
-}
-
-// A power state as a byte: 0 normal, 1 sleep, 2 standby.
-fn power_byte(power: PowerState) -> u8
-    ensures { λ b. ⌜ b ≡ powerByte power ⌝ }
-{
-    match power {
-        PowerState::Normal => 0,
-        PowerState::Sleep => 1,
-        PowerState::Standby => 2,
-    }
+    tell_frame(frame_on(state, memory, frame))
 }
 
 // The power state of the registers that the state stands for.
 fn power_on(state: &State) -> Powered
-    ensures { λ a. ⌜ PoweredOn (now (state .entry)) a ⌝ }
+    ensures { λ a. ⌜ PoweredOn sheet0713 (now (state .entry)) a ⌝ }
 {
     if is_unfit(state) {
         return Powered::Refused(OUT_OF_RANGE);
@@ -118,15 +89,9 @@ fn power_on(state: &State) -> Powered
 // The power state: 0 normal, 1 sleep, 2 standby. Refuses with 2.
 #[no_mangle]
 pub extern "C" fn panel_power_state(state: &State, answer: &mut u8) -> u8
-    ensures { λ r. ⌜ PowerOut (now (state .entry)) (now (answer .entry)) (now (answer .exit)) r ⌝ }
+    ensures { λ r. ⌜ PowerOut sheet0713 (now (state .entry)) (now (answer .entry)) (now (answer .exit)) r ⌝ }
 {
-    match power_on(state) {
-        Powered::State(power) => {
-            *answer = power_byte(power);
-            0
-        }
-        Powered::Refused(number) => number,
-    }
+    tell_power(power_on(state), answer)
 }
 
 // V0 in millivolts, as a number of fifteenths. Refuses with 2.

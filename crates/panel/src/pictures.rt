@@ -1,7 +1,7 @@
-// Two pictures, or one: the first difference, and the streams that show what is wanted.
-ghost use Rattle.panel.specs.Pictures.{FirstOut, LengthOut, UpdateOut, RedrawOut};
-use planner::count::Count;
-use planner::first::Found;
+// Two pictures of the KS0713, or one: the first difference, and the streams that show what is wanted.
+ghost use Rattle.face.specs.Pictures.{FirstOut, LengthOut, UpdateOut, RedrawOut};
+use face::pictures::tell_count;
+use face::pictures::tell_found;
 use planner::first::first_difference;
 use planner::length::update_length;
 use planner::redraw::redraw;
@@ -17,36 +17,18 @@ pub extern "C" fn panel_first_difference(
     page: &mut usize,
     column: &mut usize,
 ) -> u8
-    ensures { λ r. ⌜ FirstOut (now (recorded .entry)) (now (wanted .entry)) (now (found .entry), now (page .entry), now (column .entry))
+    ensures { λ r. ⌜ FirstOut 132 (now (recorded .entry)) (now (wanted .entry)) (now (found .entry), now (page .entry), now (column .entry))
         (now (found .exit), now (page .exit), now (column .exit)) r ⌝ }
 {
-    match first_difference(recorded, wanted) {
-        Found::At { page: p, column: c } => {
-            *found = 1;
-            *page = p;
-            *column = c;
-            0
-        }
-        Found::Nothing => {
-            *found = 0;
-            0
-        }
-        Found::Refused(number) => number,
-    }
+    tell_found(first_difference(recorded, wanted), found, page, column)
 }
 
 // How many bytes the update has. Refuses with 1.
 #[no_mangle]
 pub extern "C" fn panel_update_length(recorded: &[u8], wanted: &[u8], count: &mut usize) -> u8
-    ensures { λ r. ⌜ LengthOut (now (recorded .entry)) (now (wanted .entry)) (now (count .entry)) (now (count .exit)) r ⌝ }
+    ensures { λ r. ⌜ LengthOut 132 (now (recorded .entry)) (now (wanted .entry)) (now (count .entry)) (now (count .exit)) r ⌝ }
 {
-    match update_length(recorded, wanted) {
-        Count::Bytes(bytes) => {
-            *count = bytes;
-            0
-        }
-        Count::Refused(number) => number,
-    }
+    tell_count(update_length(recorded, wanted), count)
 }
 
 // The update's bytes and kinds, and how many. Refuses with 1, 5.
@@ -58,16 +40,10 @@ pub extern "C" fn panel_update(
     kinds: &mut [u8],
     count: &mut usize,
 ) -> u8
-    ensures { λ r. ⌜ UpdateOut (now (recorded .entry)) (now (wanted .entry)) (now (out .entry)) (now (kinds .entry)) (now (count .entry))
+    ensures { λ r. ⌜ UpdateOut 132 (now (recorded .entry)) (now (wanted .entry)) (now (out .entry)) (now (kinds .entry)) (now (count .entry))
         (now (out .exit)) (now (kinds .exit)) (now (count .exit)) r ⌝ }
 {
-    match update(recorded, wanted, out, kinds) {
-        Count::Bytes(bytes) => {
-            *count = bytes;
-            0
-        }
-        Count::Refused(number) => number,
-    }
+    tell_count(update(recorded, wanted, out, kinds), count)
 }
 
 // The redraw's bytes and kinds, and how many. Refuses with 1, 6, 5.
@@ -79,14 +55,8 @@ pub extern "C" fn panel_redraw(
     kinds: &mut [u8],
     count: &mut usize,
 ) -> u8
-    ensures { λ r. ⌜ RedrawOut (now (wanted .entry)) contrast (now (out .entry)) (now (kinds .entry)) (now (count .entry))
+    ensures { λ r. ⌜ RedrawOut 132 (now (wanted .entry)) contrast (now (out .entry)) (now (kinds .entry)) (now (count .entry))
         (now (out .exit)) (now (kinds .exit)) (now (count .exit)) r ⌝ }
 {
-    match redraw(wanted, contrast, out, kinds) {
-        Count::Bytes(bytes) => {
-            *count = bytes;
-            0
-        }
-        Count::Refused(number) => number,
-    }
+    tell_count(redraw(wanted, contrast, out, kinds), count)
 }

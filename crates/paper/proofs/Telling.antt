@@ -3,6 +3,7 @@
 -- Assumes nothing.
 use Prim.Native.Nat.{ℕ}
 use mathlib.Core.Path.{_≡_, _∙_, ap, sym}
+use mathlib.Core.Bool.{Bool, true, false, cond}
 use mathlib.Core.Option.{Option, none, some}
 use native.Mathlib.Omega.{arith}
 use Rattle.paper.specs.Told.{Told, given, refused}
@@ -34,6 +35,11 @@ module _ {A : Type 0} where
 
   pub not-given : {x : A} {n : ℕ} → refused n ≡ given x → ⊥
   not-given e = none-some (ap (λ t. t .value) e)
+
+  -- what is given where a test does not hold
+  pub given-by : (t : Bool) (n : ℕ) {x y : A} → given x ≡ cond t (refused n) (given y) → x ≡ y
+  given-by true n e = absurd (not-given {n = n} (sym e))
+  given-by false n e = given-one e
 
   pub told-is : (t : Told A) {n : ℕ} {v : Option A} → t .number ≡ n → t .value ≡ v → t ≡ record { number = n; value = v }
   told-is t {n} e f = ap (λ (x : ℕ). record { number = x; value = t .value }) e ∙ ap (λ x. record { number = n; value = x }) f

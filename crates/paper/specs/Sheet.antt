@@ -15,3 +15,7 @@ pub record Sensible (k : Sheet) : Type 0 where
 -- the KS0713: 132 columns, a counter of eight bits, 64 rows, resistor 0 at start
 abbrev pub sheet0713 : Sheet
 sheet0713 = record { width = 132; highs = 16; rows = 64; resistor = 0 }
+
+-- the KS0717: 100 columns, a counter of seven bits, 54 rows, resistor 4 at start (001's reset list: R2, R1, R0 = 1, 0, 0)
+abbrev pub sheet0717 : Sheet
+sheet0717 = record { width = 100; highs = 8; rows = 54; resistor = 4 }

@@ -1,6 +1,6 @@
 // What differs from the data sheet of one chip to that of its sisters.
 ghost use mathlib.Core.Path.{_≡_};
-ghost use Rattle.paper.specs.Sheet.{sheet0713};
+ghost use Rattle.paper.specs.Sheet.{sheet0713, sheet0717};
 
 pub struct Sheet {
     // Columns of the memory, and segments of the glass.
@@ -22,5 +22,17 @@ pub fn ks0713() -> Sheet
         highs: 16,
         rows: 64,
         resistor: 0,
+    }
+}
+
+// The KS0717.
+pub fn ks0717() -> Sheet
+    ensures { λ k. ⌜ k ≡ sheet0717 ⌝ }
+{
+    Sheet {
+        width: 100,
+        highs: 8,
+        rows: 54,
+        resistor: 4,
     }
 }

@@ -1,7 +1,8 @@
 -- Demand 3 holds, about plain registers, the controller's own run, and the bytes that the calls put into their outputs: the
--- streams' theorems at the KS0713, where its laws (controller, Chips) meet them.
+-- streams' theorems at a chip whose sheet makes sense and has a column, where its laws (controller, Chips) meet them; then at each of
+-- the two.
 -- Assumes nothing.
-use Prim.Native.Nat.{ℕ, _<_}
+use Prim.Native.Nat.{ℕ, _+_, _*_, _≤_, _<_}
 use mathlib.Core.Path.{_≡_, _∙_, refl, ap, sym, subst}
 use mathlib.Core.Bool.{Bool, true, false, cond}
 use mathlib.Core.List.{List, [], _∷_, _++_, map}
@@ -11,15 +12,16 @@ use borrow.Author.Tests.{eqb-true, ltb-false}
 use lib.ListN.{length, take, drop}
 use Rattle.paper.specs.Refusal.{wrongSize, outsideField, shortOutput}
 use Rattle.paper.specs.Told.{given}
-use Rattle.paper.specs.Sheet.{sheet0713}
-use Rattle.paper.proofs.Sensible.{sensible0713}
+use Rattle.paper.specs.Sheet.{Sensible, sheet0713, sheet0717}
+use Rattle.paper.specs.declared.sheet.Sheet.{Sheet}
+use Rattle.paper.proofs.Sensible.{sensible0713, sensible0717}
 use Rattle.paper.proofs.Telling.{given-one, not-given}
 use Rattle.registers.specs.Registers.{PoweredUp}
 use Rattle.registers.specs.declared.Registers.{Registers}
 use Rattle.registers.proofs.InRange.{ranged, powered-ranged}
 use Rattle.controller.specs.Run.{BusCycle}
 use Rattle.controller.specs.State.{State, state, rest, settings}
-use Rattle.controller.proofs.Chips.{chip0713, restart0713, moved, redrawn}
+use Rattle.controller.proofs.Chips.{chipOf, restartOf, moved, redrawn}
 use Rattle.streams.specs.Update.{updateStream}
 use Rattle.streams.specs.Redraw.{redrawStream}
 use Rattle.streams.specs.Demand.{Recorded, Restarts}
@@ -30,83 +32,9 @@ use Rattle.streams.proofs.Updating.{update-emits, update-right, update-least, u
 use Rattle.streams.proofs.Redrawing.{redraw-right, redraw-cut}
 use Rattle.planner.specs.Pictures.{misfit}
 use Rattle.planner.specs.Sent.{kindOf, byteOf, tooShort, Sent, redrawRefusal, IsUpdate, IsRedraw}
-use Rattle.planner.specs.Demand3.{PinHigh, Holding, played, pairs, Updates, Redraws}
+use Rattle.planner.specs.Demand3.{PinHigh, Holding, played, pairs, Updates, Redraws, Demand3}
 use Rattle.planner.specs.declared.count.Count.the-variants.{Bytes}
-
--- ---- the premises are the chip's own
-
-pub restarts : (r : Registers) (m : List ℕ) → PinHigh r m → Restarts chip0713 restart0713 (state r m)
-restarts r m h = record { restartable = record { long = h .long; ranged = h .ranged; high = h .high }; sized = h .long }
-
-pub records : (r : Registers) (m recorded : List ℕ) → Holding r m recorded → Recorded chip0713 (state r m) recorded
-records r m recorded h = record {
-  ready = record { restartable = restarts r m (h .pin) .restartable; quiet = h .quiet };
-  sized = h .pin .long;
-  same = h .same;
-}
-
--- and back
-pub pin-high : (s : State) → Restarts chip0713 restart0713 s → PinHigh (s .registers) (s .memory)
-pin-high s h = record { ranged = h .restartable .ranged; high = h .restartable .high; long = h .restartable .long }
-
-pub holding : (s : State) (picture : List ℕ) → Recorded chip0713 s picture → Holding (s .registers) (s .memory) picture
-holding s picture h = record {
-  pin = record { ranged = h .ready .restartable .ranged; high = h .ready .restartable .high; long = h .sized };
-  quiet = h .ready .quiet;
-  same = h .same;
-}
-
--- ---- power-up meets the premises: of a redraw, and of an update if the memory as lent is the recorded picture
-
-pub power-up-pin-high : (r : Registers) (m : List ℕ) → PoweredUp sheet0713 r → length m ≡ 1188 → PinHigh r m
-power-up-pin-high r m p h = record { ranged = ranged sheet0713 r (powered-ranged sheet0713 sensible0713 r p); high = ap (λ s. s .«pin_low») (p .tells); long = h }
-
-pub power-up-holds : (r : Registers) (m : List ℕ) → PoweredUp sheet0713 r → length m ≡ 1188 → Holding r m m
-power-up-holds r m p h =
-    record { pin = power-up-pin-high r m p h; quiet = ap (λ s. s .awaited) (p .tells); same = same-refl 132 m }
-
--- ---- the update
-
-pub update-updates : (r : Registers) (m recorded wanted : List ℕ) → Holding r m recorded → Updates r m recorded wanted (updateStream 132 recorded wanted)
-update-updates r m recorded wanted h =
-    let s = state r m in
-    let cycles = updateStream 132 recorded wanted in
-    let t = played r m cycles in
-    let p = records r m recorded h in
-    let u = update-right chip0713 s recorded wanted p in
-    let n = update-length 132 recorded wanted in
-    record {
-      accepted = u .leaves .accepted;
-      holds = holding t wanted (u .leaves .recorded);
-      memory = u .memory;
-      registers = moved (t .registers) r (u .rest) (ap (λ v. v .page) (u .exact)) (ap (λ v. v .column) (u .exact)) (ap (λ v. v .holder) (u .exact));
-      count = n;
-      most = omega (arith, n, update-most 132 recorded wanted);
-      of-kind = update-kind 132 recorded wanted;
-      stream = update-emits 132 recorded wanted;
-      least = λ xs ok e. omega (arith, n, update-least chip0713 s recorded wanted p xs ok e);
-      cut = λ n. update-cut chip0713 s recorded wanted p n .between;
-      cut-accepted = λ n. cut-accepted chip0713 s recorded wanted p n;
-      cut-pin = λ n. let c = update-cut chip0713 s recorded wanted p n in pin-high (played r m (take n cycles)) (record { restartable = c .ready .restartable; sized = c .sized });
-    }
-
--- ---- the redraw
-
-pub redraw-redraws : (r : Registers) (m wanted : List ℕ) (contrast : ℕ) → PinHigh r m → contrast < 64 → Redraws r m wanted contrast (redrawStream 132 wanted contrast)
-redraw-redraws r m wanted contrast h small =
-    let s = state r m in
-    let cycles = redrawStream 132 wanted contrast in
-    let t = played r m cycles in
-    let u = redraw-right chip0713 restart0713 (lit≤ tt) s (restarts r m h) wanted contrast small in
-    record {
-      accepted = u .leaves .accepted;
-      holds = holding t wanted (u .leaves .recorded);
-      memory = u .memory;
-      registers = redrawn (t .registers) r (u .settings) (u .page) (u .column) (u .holder) (u .contrast) (u .indicator) (u .value) (u .leaves .recorded .ready .quiet);
-      count = redraw-length 132 wanted contrast;
-      cut-accepted = λ n. redraw-cut chip0713 restart0713 (lit≤ tt) s (restarts r m h) wanted contrast small n .accepted;
-      cut-pin = λ n. pin-high (played r m (take n cycles)) (redraw-cut chip0713 restart0713 (lit≤ tt) s (restarts r m h) wanted contrast small n .restarts);
-    }
+use Rattle.planner.proofs.ShutOuts.{bytes-out, update-not-refused, redraw-not-refused}
 
 -- ---- the calls: what they put into their outputs is the stream
 
@@ -126,42 +54,139 @@ module _ {number : ℕ} {s : List BusCycle} {out kinds : List ℕ} {n : ℕ} {ou
   pub sent-is : (number ≡ 0) × (pairs n kinds′ out′ ≡ s)
   sent-is = sent-by (eqb number 0) refl
 
-pub sent-updates : (r : Registers) (m recorded wanted out kinds : List ℕ) (n : ℕ) (out′ kinds′ : List ℕ) → Holding r m recorded
-    → IsUpdate 132 recorded wanted out kinds (Bytes n) out′ kinds′ → Updates r m recorded wanted (pairs n kinds′ out′)
-sent-updates r m recorded wanted out kinds n out′ kinds′ h sent =
-    subst (Updates r m recorded wanted) (sym (sent-is sent .1)) (update-updates r m recorded wanted h)
-
 -- a redraw that is not refused has a contrast inside its field
 contrast-by : (a b c : Bool) → cond a wrongSize (cond b outsideField (cond c shortOutput 0)) ≡ 0 → b ≡ false
 contrast-by true b c e = absurd (let z : _≡_ {A = ℕ} 1 0 = e in omega arith)
 contrast-by false true c e = absurd (let z : _≡_ {A = ℕ} 6 0 = e in omega arith)
 contrast-by false false c e = refl
 
-contrast-small : (wanted : List ℕ) (contrast : ℕ) (out kinds : List ℕ) → redrawRefusal 132 wanted contrast out kinds ≡ 0 → contrast < 64
+contrast-small : (W : ℕ) (wanted : List ℕ) (contrast : ℕ) (out kinds : List ℕ) → redrawRefusal W wanted contrast out kinds ≡ 0 → contrast < 64
 unfolding redrawRefusal
-contrast-small wanted contrast out kinds e =
-    omega (arith, ltb-false 63 contrast (contrast-by (misfit 132 wanted) (ltb 63 contrast) (tooShort (redrawStream 132 wanted contrast) out kinds) e))
+contrast-small W wanted contrast out kinds e =
+    omega (arith, ltb-false 63 contrast (contrast-by (misfit W wanted) (ltb 63 contrast) (tooShort (redrawStream W wanted contrast) out kinds) e))
 
-pub sent-redraws : (r : Registers) (m wanted : List ℕ) (contrast : ℕ) (out kinds : List ℕ) (n : ℕ) (out′ kinds′ : List ℕ) → PinHigh r m
-    → IsRedraw 132 wanted contrast out kinds (Bytes n) out′ kinds′ → Redraws r m wanted contrast (pairs n kinds′ out′)
-sent-redraws r m wanted contrast out kinds n out′ kinds′ h sent =
-    subst (Redraws r m wanted contrast) (sym (sent-is sent .1)) (redraw-redraws r m wanted contrast h (contrast-small wanted contrast out kinds (sent-is sent .0)))
+-- ---- a chip whose sheet makes sense
 
--- ---- the mission's own sentence: an update or a redraw cut off after any byte, then a redraw, leaves the wanted picture
+module _ (k : Sheet) (g : Sensible k) where
+  -- the premises are the chip's own
 
--- after any cycles that leave the pin high
-pub then-redraw : (r : Registers) (m wanted : List ℕ) (contrast : ℕ) (out kinds : List ℕ) (n : ℕ) (out′ kinds′ : List ℕ) (cycles : List BusCycle)
-    → PinHigh (played r m cycles .registers) (played r m cycles .memory) → IsRedraw 132 wanted contrast out kinds (Bytes n) out′ kinds′
-    → Redraws (played r m cycles .registers) (played r m cycles .memory) wanted contrast (pairs n kinds′ out′)
-then-redraw r m wanted contrast out kinds n out′ kinds′ cycles h sent =
-    sent-redraws (played r m cycles .registers) (played r m cycles .memory) wanted contrast out kinds n out′ kinds′ h sent
+  pub restarts : (r : Registers) (m : List ℕ) → PinHigh k r m → Restarts (chipOf k g) (restartOf k g) (state r m)
+  restarts r m h = record { restartable = record { long = h .long; ranged = h .ranged; high = h .high }; sized = h .long }
 
-module _ (r : Registers) (m : List ℕ) (u : List ℕ) (contrast : ℕ) (out kinds : List ℕ) (n : ℕ) (out′ kinds′ : List ℕ)
-    (sent : IsRedraw 132 u contrast out kinds (Bytes n) out′ kinds′) where
-  pub cut-update-redraws : (recorded wanted : List ℕ) (cycles : List BusCycle) (i : ℕ) → Updates r m recorded wanted cycles
-      → Redraws (played r m (take i cycles) .registers) (played r m (take i cycles) .memory) u contrast (pairs n kinds′ out′)
-  cut-update-redraws recorded wanted cycles i h = then-redraw r m u contrast out kinds n out′ kinds′ (take i cycles) (h .cut-pin i) sent
+  pub records : (r : Registers) (m recorded : List ℕ) → Holding k r m recorded → Recorded (chipOf k g) (state r m) recorded
+  records r m recorded h = record {
+    ready = record { restartable = restarts r m (h .pin) .restartable; quiet = h .quiet };
+    sized = h .pin .long;
+    same = h .same;
+  }
 
-  pub cut-redraw-redraws : (wanted : List ℕ) (given : ℕ) (cycles : List BusCycle) (i : ℕ) → Redraws r m wanted given cycles
-      → Redraws (played r m (take i cycles) .registers) (played r m (take i cycles) .memory) u contrast (pairs n kinds′ out′)
-  cut-redraw-redraws wanted given cycles i h = then-redraw r m u contrast out kinds n out′ kinds′ (take i cycles) (h .cut-pin i) sent
+  -- and back
+  pub pin-high : (s : State) → Restarts (chipOf k g) (restartOf k g) s → PinHigh k (s .registers) (s .memory)
+  pin-high s h = record { ranged = h .restartable .ranged; high = h .restartable .high; long = h .restartable .long }
+
+  pub holding : (s : State) (picture : List ℕ) → Recorded (chipOf k g) s picture → Holding k (s .registers) (s .memory) picture
+  holding s picture h = record {
+    pin = record { ranged = h .ready .restartable .ranged; high = h .ready .restartable .high; long = h .sized };
+    quiet = h .ready .quiet;
+    same = h .same;
+  }
+
+  -- power-up meets the premises: of a redraw, and of an update if the memory as lent is the recorded picture
+
+  pub power-up-pin-high : (r : Registers) (m : List ℕ) → PoweredUp k r → length m ≡ 9 * k .width → PinHigh k r m
+  power-up-pin-high r m p h = record { ranged = ranged k r (powered-ranged k g r p); high = ap (λ s. s .«pin_low») (p .tells); long = h }
+
+  pub power-up-holds : (r : Registers) (m : List ℕ) → PoweredUp k r → length m ≡ 9 * k .width → Holding k r m m
+  power-up-holds r m p h =
+      record { pin = power-up-pin-high r m p h; quiet = ap (λ s. s .awaited) (p .tells); same = same-refl (k .width) m }
+
+  -- the update
+
+  pub update-updates : (r : Registers) (m recorded wanted : List ℕ) → Holding k r m recorded → Updates k r m recorded wanted (updateStream (k .width) recorded wanted)
+  update-updates r m recorded wanted h =
+      let s = state r m in
+      let cycles = updateStream (k .width) recorded wanted in
+      let t = played k r m cycles in
+      let p = records r m recorded h in
+      let u = update-right (chipOf k g) s recorded wanted p in
+      let n = update-length (k .width) recorded wanted in
+      record {
+        accepted = u .leaves .accepted;
+        holds = holding t wanted (u .leaves .recorded);
+        memory = u .memory;
+        registers = moved (t .registers) r (u .rest) (ap (λ v. v .page) (u .exact)) (ap (λ v. v .column) (u .exact)) (ap (λ v. v .holder) (u .exact));
+        count = n;
+        most = omega (arith, n, update-most (k .width) recorded wanted);
+        of-kind = update-kind (k .width) recorded wanted;
+        stream = update-emits (k .width) recorded wanted;
+        least = λ xs ok e. omega (arith, n, update-least (chipOf k g) s recorded wanted p xs ok e);
+        cut = λ n. update-cut (chipOf k g) s recorded wanted p n .between;
+        cut-accepted = λ n. cut-accepted (chipOf k g) s recorded wanted p n;
+        cut-pin = λ n. let c = update-cut (chipOf k g) s recorded wanted p n in pin-high (played k r m (take n cycles)) (record { restartable = c .ready .restartable; sized = c .sized });
+      }
+
+  pub sent-updates : (r : Registers) (m recorded wanted out kinds : List ℕ) (n : ℕ) (out′ kinds′ : List ℕ) → Holding k r m recorded
+      → IsUpdate (k .width) recorded wanted out kinds (Bytes n) out′ kinds′ → Updates k r m recorded wanted (pairs n kinds′ out′)
+  sent-updates r m recorded wanted out kinds n out′ kinds′ h sent =
+      subst (Updates k r m recorded wanted) (sym (sent-is sent .1)) (update-updates r m recorded wanted h)
+
+  module _ (one : 1 ≤ k .width) where
+    -- the redraw, which a width of 0 would leave without data
+
+    pub redraw-redraws : (r : Registers) (m wanted : List ℕ) (contrast : ℕ) → PinHigh k r m → contrast < 64 → Redraws k r m wanted contrast (redrawStream (k .width) wanted contrast)
+    redraw-redraws r m wanted contrast h small =
+        let s = state r m in
+        let cycles = redrawStream (k .width) wanted contrast in
+        let t = played k r m cycles in
+        let u = redraw-right (chipOf k g) (restartOf k g) one s (restarts r m h) wanted contrast small in
+        record {
+          accepted = u .leaves .accepted;
+          holds = holding t wanted (u .leaves .recorded);
+          memory = u .memory;
+          registers = redrawn (t .registers) r (u .settings) (u .page) (u .column) (u .holder) (u .contrast) (u .indicator) (u .value) (u .leaves .recorded .ready .quiet);
+          count = redraw-length (k .width) wanted contrast;
+          cut-accepted = λ n. redraw-cut (chipOf k g) (restartOf k g) one s (restarts r m h) wanted contrast small n .accepted;
+          cut-pin = λ n. pin-high (played k r m (take n cycles)) (redraw-cut (chipOf k g) (restartOf k g) one s (restarts r m h) wanted contrast small n .restarts);
+        }
+
+    pub sent-redraws : (r : Registers) (m wanted : List ℕ) (contrast : ℕ) (out kinds : List ℕ) (n : ℕ) (out′ kinds′ : List ℕ) → PinHigh k r m
+        → IsRedraw (k .width) wanted contrast out kinds (Bytes n) out′ kinds′ → Redraws k r m wanted contrast (pairs n kinds′ out′)
+    sent-redraws r m wanted contrast out kinds n out′ kinds′ h sent =
+        subst (Redraws k r m wanted contrast) (sym (sent-is sent .1)) (redraw-redraws r m wanted contrast h (contrast-small (k .width) wanted contrast out kinds (sent-is sent .0)))
+
+    -- the mission's own sentence: an update or a redraw cut off after any byte, then a redraw, leaves the wanted picture
+
+    -- after any cycles that leave the pin high
+    pub then-redraw : (r : Registers) (m wanted : List ℕ) (contrast : ℕ) (out kinds : List ℕ) (n : ℕ) (out′ kinds′ : List ℕ) (cycles : List BusCycle)
+        → PinHigh k (played k r m cycles .registers) (played k r m cycles .memory) → IsRedraw (k .width) wanted contrast out kinds (Bytes n) out′ kinds′
+        → Redraws k (played k r m cycles .registers) (played k r m cycles .memory) wanted contrast (pairs n kinds′ out′)
+    then-redraw r m wanted contrast out kinds n out′ kinds′ cycles h sent =
+        sent-redraws (played k r m cycles .registers) (played k r m cycles .memory) wanted contrast out kinds n out′ kinds′ h sent
+
+    module _ (r : Registers) (m : List ℕ) (u : List ℕ) (contrast : ℕ) (out kinds : List ℕ) (n : ℕ) (out′ kinds′ : List ℕ)
+        (sent : IsRedraw (k .width) u contrast out kinds (Bytes n) out′ kinds′) where
+      pub cut-update-redraws : (recorded wanted : List ℕ) (cycles : List BusCycle) (i : ℕ) → Updates k r m recorded wanted cycles
+          → Redraws k (played k r m (take i cycles) .registers) (played k r m (take i cycles) .memory) u contrast (pairs n kinds′ out′)
+      cut-update-redraws recorded wanted cycles i h = then-redraw r m u contrast out kinds n out′ kinds′ (take i cycles) (h .cut-pin i) sent
+
+      pub cut-redraw-redraws : (wanted : List ℕ) (given : ℕ) (cycles : List BusCycle) (i : ℕ) → Redraws k r m wanted given cycles
+          → Redraws k (played k r m (take i cycles) .registers) (played k r m (take i cycles) .memory) u contrast (pairs n kinds′ out′)
+      cut-redraw-redraws wanted given cycles i h = then-redraw r m u contrast out kinds n out′ kinds′ (take i cycles) (h .cut-pin i) sent
+
+    pub demand-3 : Demand3 k (9 * (k .width + 3)) (4 + 9 * (k .width + 3))
+    demand-3 = record {
+      updates = sent-updates;
+      redraws = sent-redraws;
+      update-most = λ recorded wanted out kinds n out′ kinds′ sent. omega (arith, bytes-out sent .0, update-length (k .width) recorded wanted, update-most (k .width) recorded wanted);
+      redraw-whole = λ wanted contrast out kinds n out′ kinds′ sent. bytes-out sent .0 ∙ redraw-length (k .width) wanted contrast;
+      update-room = λ recorded wanted out kinds n out′ kinds′ e f. update-not-refused (k .width) recorded wanted out kinds n out′ kinds′ (e, f);
+      redraw-room = redraw-not-refused (k .width);
+    }
+
+-- ---- each of the two chips
+
+pub demand-3-0713 : Demand3 sheet0713 1215 1219
+demand-3-0713 = demand-3 sheet0713 sensible0713 (lit≤ tt)
+
+pub demand-3-0717 : Demand3 sheet0717 927 931
+demand-3-0717 = demand-3 sheet0717 sensible0717 (lit≤ tt)

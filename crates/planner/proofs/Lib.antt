@@ -5,5 +5,5 @@ pub mod Turns
 pub mod Sending
 pub mod Exactly
 pub mod Promised
-pub mod Demand3Holds
 pub mod ShutOuts
+pub mod Demand3Holds

@@ -3,6 +3,7 @@ use crate::picture::differ;
 use crate::picture::misfit;
 use paper::refusal::WRONG_SIZE;
 use paper::sheet::ks0713;
+use paper::sheet::ks0717;
 ghost use mathlib.Core.Path.{_≡_};
 ghost use Prim.Native.Nat.{_≤_};
 ghost use Rattle.paper.specs.Told.{given};
@@ -57,5 +58,13 @@ pub fn first_difference(recorded: &[u8], wanted: &[u8]) -> Found
     ensures { λ a. ⌜ IsFirst 132 (now (recorded .entry)) (now (wanted .entry)) a ⌝ }
 {
     let width = ks0713().width;
+    first_for(recorded, wanted, width)
+}
+
+// The same of two pictures of the KS0717. Refuses with 1 where a picture is not 900 bytes.
+pub fn first_difference_ks0717(recorded: &[u8], wanted: &[u8]) -> Found
+    ensures { λ a. ⌜ IsFirst 100 (now (recorded .entry)) (now (wanted .entry)) a ⌝ }
+{
+    let width = ks0717().width;
     first_for(recorded, wanted, width)
 }

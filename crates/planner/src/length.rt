@@ -4,6 +4,7 @@ use crate::picture::differ;
 use crate::picture::misfit;
 use paper::refusal::WRONG_SIZE;
 use paper::sheet::ks0713;
+use paper::sheet::ks0717;
 ghost use mathlib.Core.Path.{_≡_};
 ghost use Prim.Native.Nat.{_+_, _-_, _≤_, _<_, min};
 ghost use Rattle.streams.specs.Picture.{differs};
@@ -98,5 +99,13 @@ pub fn update_length(recorded: &[u8], wanted: &[u8]) -> Count
     ensures { λ a. ⌜ IsLength 132 (now (recorded .entry)) (now (wanted .entry)) a ⌝ }
 {
     let width = ks0713().width;
+    length_for(recorded, wanted, width)
+}
+
+// The same for the KS0717. Refuses with 1 where a picture is not 900 bytes.
+pub fn update_length_ks0717(recorded: &[u8], wanted: &[u8]) -> Count
+    ensures { λ a. ⌜ IsLength 100 (now (recorded .entry)) (now (wanted .entry)) a ⌝ }
+{
+    let width = ks0717().width;
     length_for(recorded, wanted, width)
 }

@@ -11,6 +11,7 @@ use paper::refusal::OUTSIDE_FIELD;
 use paper::refusal::SHORT_OUTPUT;
 use paper::refusal::WRONG_SIZE;
 use paper::sheet::ks0713;
+use paper::sheet::ks0717;
 ghost use Prim.Native.Nat.{_≤_, _<_};
 ghost use mathlib.Core.Option.{none};
 ghost use Rattle.streams.specs.Stretch.{emit};
@@ -84,5 +85,13 @@ pub fn redraw(wanted: &[u8], contrast: u8, out: &mut [u8], kinds: &mut [u8]) -> 
     ensures { λ a. ⌜ IsRedraw 132 (now (wanted .entry)) contrast (now (out .entry)) (now (kinds .entry)) a (now (out .exit)) (now (kinds .exit)) ⌝ }
 {
     let width = ks0713().width;
+    redraw_for(wanted, width, contrast, out, kinds)
+}
+
+// The same for the KS0717, 931 bytes. Refuses with 1 where the picture is not 900 bytes, then with 6, then with 5.
+pub fn redraw_ks0717(wanted: &[u8], contrast: u8, out: &mut [u8], kinds: &mut [u8]) -> Count
+    ensures { λ a. ⌜ IsRedraw 100 (now (wanted .entry)) contrast (now (out .entry)) (now (kinds .entry)) a (now (out .exit)) (now (kinds .exit)) ⌝ }
+{
+    let width = ks0717().width;
     redraw_for(wanted, width, contrast, out, kinds)
 }

@@ -12,6 +12,7 @@ use crate::picture::shown_at;
 use paper::refusal::SHORT_OUTPUT;
 use paper::refusal::WRONG_SIZE;
 use paper::sheet::ks0713;
+use paper::sheet::ks0717;
 ghost use mathlib.Core.Path.{_≡_};
 ghost use Prim.Native.Nat.{_+_, _≤_, _<_};
 ghost use mathlib.Core.Bool.{cond, _||_, false};
@@ -178,5 +179,13 @@ pub fn update(recorded: &[u8], wanted: &[u8], out: &mut [u8], kinds: &mut [u8]) 
     ensures { λ a. ⌜ IsUpdate 132 (now (recorded .entry)) (now (wanted .entry)) (now (out .entry)) (now (kinds .entry)) a (now (out .exit)) (now (kinds .exit)) ⌝ }
 {
     let width = ks0713().width;
+    update_for(recorded, wanted, width, out, kinds)
+}
+
+// The same for the KS0717. Refuses with 1 where a picture is not 900 bytes, then with 5.
+pub fn update_ks0717(recorded: &[u8], wanted: &[u8], out: &mut [u8], kinds: &mut [u8]) -> Count
+    ensures { λ a. ⌜ IsUpdate 100 (now (recorded .entry)) (now (wanted .entry)) (now (out .entry)) (now (kinds .entry)) a (now (out .exit)) (now (kinds .exit)) ⌝ }
+{
+    let width = ks0717().width;
     update_for(recorded, wanted, width, out, kinds)
 }

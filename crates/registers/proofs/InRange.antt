@@ -1,13 +1,14 @@
--- In range, as one test and range by range; and what a promise about power-up fixes.
+-- In range, as one test and range by range; what a promise about power-up fixes; and where the two chips' ranges part.
 -- Assumes nothing.
-use Prim.Native.Nat.{_*_}
+use Prim.Native.Nat.{_*_, _≤_, _<_}
 use mathlib.Core.Path.{_≡_, refl, sym, subst, _∙_}
 use mathlib.Core.Bool.{Bool, true, false, _||_}
 use native.Mathlib.Omega.{arith}
 use lib.Dec.{T, ltb, leb}
 use borrow.Author.Tests.{le-ltb, lt-leb, ltb-false, leb-false}
-use Rattle.paper.specs.Sheet.{Sensible}
+use Rattle.paper.specs.Sheet.{Sensible, sheet0713, sheet0717}
 use Rattle.paper.specs.declared.sheet.Sheet.{Sheet}
+use Rattle.paper.proofs.Exactly.{Exactly}
 use Rattle.registers.specs.Registers.{outside, savedOf, Ranged, PoweredUp}
 use Rattle.registers.specs.declared.Registers.{Registers}
 
@@ -60,3 +61,25 @@ powered-one f g = f .tells ∙ sym (g .tells)
 -- power-up's registers are in range
 pub powered-ranged : (k : Sheet) → Sensible k → (r : Registers) → PoweredUp k r → Ranged k r
 powered-ranged k g r p = rw (p .tells) (omega (arith, g .wide, g .first))
+
+-- two chips' ranges part in the columns alone
+other-chip : (k c : Sheet) (r : Registers) → Ranged k r → r .column .0 < c .highs * 16 → savedOf (r .«modify_read») < c .highs * 16 → Ranged c r
+other-chip k c r g h s = record {
+  page = g .page;
+  column = h;
+  start-line = g .start-line;
+  contrast = g .contrast;
+  resistor = g .resistor;
+  power = g .power;
+  indicator-value = g .indicator-value;
+  saved = s;
+}
+
+-- the KS0717's counter has seven bits: its registers are in range exactly if they are for the KS0713 and no column, saved or not, is
+-- above 127
+pub column-127 : (r : Registers) → Exactly (outside sheet0717 r ≡ false) ((outside sheet0713 r ≡ false) × (r .column .0 ≤ 127) × (savedOf (r .«modify_read») ≤ 127))
+column-127 r = (
+  λ e. let g = ranges sheet0717 r e in
+      (ranged sheet0713 r (other-chip sheet0717 sheet0713 r g (omega (arith, g .column)) (omega (arith, g .saved))), omega (arith, g .column), omega (arith, g .saved)),
+  λ h. ranged sheet0717 r (other-chip sheet0713 sheet0717 r (ranges sheet0713 r (h .0)) (omega (arith, h .1)) (omega (arith, h .2))),
+)

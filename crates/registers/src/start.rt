@@ -1,6 +1,6 @@
 // The start values, and the registers at power-up.
 ghost use mathlib.Core.Path.{_≡_};
-ghost use Rattle.paper.specs.Sheet.{sheet0713};
+ghost use Rattle.paper.specs.Sheet.{sheet0713, sheet0717};
 ghost use Rattle.registers.specs.Registers.{start, PoweredUp};
 use crate::Column;
 use crate::ModifyRead;
@@ -8,6 +8,7 @@ use crate::Registers;
 use instructions::instruction::Awaited;
 use paper::sheet::Sheet;
 use paper::sheet::ks0713;
+use paper::sheet::ks0717;
 
 // Every register at its start value, with the holder and the pin as given.
 pub fn started(chip: Sheet, holder: u8, low: bool) -> Registers
@@ -40,4 +41,11 @@ pub fn power_up() -> Registers
     ensures { λ r. ⌜ PoweredUp sheet0713 r ⌝ }
 {
     started(ks0713(), 0, false)
+}
+
+// The KS0717's registers at power-up: pin low then high, holder 0.
+pub fn power_up_ks0717() -> Registers
+    ensures { λ r. ⌜ PoweredUp sheet0717 r ⌝ }
+{
+    started(ks0717(), 0, false)
 }

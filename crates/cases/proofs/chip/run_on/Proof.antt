@@ -8,10 +8,10 @@ use Rattle.cases.proofs.chip.run_on.Statement.{statement}
 use Rattle.cases.proofs.chip.run_on.Tie as tie
 
 abbrev Inv-loop : tie.InvT-loop
-Inv-loop start memory₀ cases registers₀ i₀ memory registers i = length memory ≡ length memory₀
+Inv-loop chip start memory₀ cases registers₀ i₀ memory registers i = length memory ≡ length memory₀
 
 abbrev μ-loop : tie.MeasureT-loop
-μ-loop start memory₀ cases registers₀ i₀ memory registers i = length cases / 2 - i
+μ-loop chip start memory₀ cases registers₀ i₀ memory registers i = length cases / 2 - i
 
 pub run-on-spec : {M : Type 1} → statement M
 run-on-spec =

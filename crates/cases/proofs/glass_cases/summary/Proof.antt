@@ -2,15 +2,16 @@
 -- Assumes nothing.
 use Prim.Native.Nat.{_-_, _≤_}
 use native.Mathlib.Omega.{arith}
+use lib.ListN.{length}
 use borrow.Author.Needs.{needs}
 use Rattle.cases.proofs.glass_cases.summary.Statement.{statement}
 use Rattle.cases.proofs.glass_cases.summary.Tie as tie
 
 abbrev Inv-loop : tie.InvT-loop
-Inv-loop frame lit₀ i₀ lit i = (i ≤ 1188) × (lit .count ≤ i)
+Inv-loop frame lit₀ i₀ lit i = (i ≤ length frame) × (lit .count ≤ i)
 
 abbrev μ-loop : tie.MeasureT-loop
-μ-loop frame lit₀ i₀ lit i = 1188 - i
+μ-loop frame lit₀ i₀ lit i = length frame - i
 
 pub summary-spec : {M : Type 1} → statement M
 summary-spec =

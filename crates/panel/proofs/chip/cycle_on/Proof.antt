@@ -3,8 +3,9 @@
 use mathlib.Core.Path.{refl, ap}
 use native.Mathlib.Omega.{arith}
 use borrow.Author.Needs.{needs}
+use Rattle.paper.specs.Sheet.{sheet0713}
 use Rattle.planner.proofs.Showing.{told}
-use Rattle.panel.proofs.Sizes.{sized}
+use Rattle.face.proofs.Sizes.{sized}
 use Rattle.panel.proofs.chip.cycle_on.Statement.{statement}
 use Rattle.panel.proofs.chip.cycle_on.Tie as tie
 
@@ -18,7 +19,7 @@ cycle-on-spec =
     (λ c κs. search needs)
     (λ c.
     let u = c .before .before in
-    rw (told (u .is-unfit .ensures) (c .before .if1 .taken)) (rw (c .unfit-number .ensures, sized _ _ (u .before .before .ks0713 .ensures)) refl, refl))
+    rw (told (u .is-unfit .ensures) (c .before .if1 .taken)) (rw (c .unfit-number .ensures, sized sheet0713 (u .before .before .ks0713 .ensures) _) refl, refl))
     (λ c κs. search needs)
     (λ c κs. search needs)
     (λ c. search needs)

@@ -3,8 +3,9 @@
 use mathlib.Core.Path.{refl, ap}
 use native.Mathlib.Omega.{arith}
 use borrow.Author.Needs.{needs}
+use Rattle.paper.specs.Sheet.{sheet0713}
 use Rattle.planner.proofs.Showing.{told}
-use Rattle.panel.proofs.Sizes.{both-sized}
+use Rattle.face.proofs.Sizes.{both-sized}
 use Rattle.panel.proofs.chip.frame_on.Statement.{statement}
 use Rattle.panel.proofs.chip.frame_on.Tie as tie
 
@@ -19,7 +20,7 @@ frame-on-spec =
     (λ c.
     let u = c .before .before in
     let k = u .before .before .ks0713 .ensures in
-    rw (told (u .is-unfit .ensures) (c .before .if1 .taken)) (rw (c .unfit-number .ensures, both-sized _ _ _ k) refl, refl))
+    rw (told (u .is-unfit .ensures) (c .before .if1 .taken)) (rw (c .unfit-number .ensures, both-sized sheet0713 k _ _) refl, refl))
     (λ c κs. search needs)
     (λ c κs. search needs)
     (λ c. search needs)

@@ -1,0 +1,353 @@
+-- What the promises fix, for any chip whose sheet makes sense. Two results that a promise admits are equal, out-parameters and lent bytes included, since the promise of
+-- the crate below fixes its answer; each call answers exactly the number named here, and 0 exactly if nothing is refused.
+-- Assumes nothing.
+use Prim.Native.Nat.{ℕ, _+_, _*_, _≤_, _<_}
+use mathlib.Core.Path.{_≡_, _∙_, refl, ap, sym, subst}
+use mathlib.Core.Logic.{_≢_, inl, inr, ⊎-elim}
+use mathlib.Core.Bool.{false, cond, not, _&&_, _||_}
+use mathlib.Core.Option.{Option, none, some}
+use mathlib.Core.List.{List}
+use native.Mathlib.Omega.{arith}
+use lib.ListN.{length}
+use lib.Dec.{T, ltb}
+use borrow.Author.Tests.{ltb-false, le-ltb}
+use Rattle.paper.specs.Refusal.{wrongSize, outOfRange, outsideField}
+use Rattle.paper.specs.Told.{Told, given, refused}
+use Rattle.paper.specs.Sheet.{Sensible}
+use Rattle.paper.specs.declared.sheet.Sheet.{Sheet}
+use Rattle.paper.specs.Answers.{leftBy}
+use Rattle.paper.proofs.Cases.{split, less}
+use Rattle.paper.proofs.Exactly.{Exactly, then, both, same-number, past, only}
+use Rattle.paper.proofs.Either.{or-left, or-right}
+use Rattle.paper.proofs.Answering.{answers-one, if-split, if-both, test-number, number-number}
+use Rattle.instructions.specs.Read.{toldReading, assigned, nothingAwaited, IsRead}
+use Rattle.instructions.specs.Write.{toldWriting, OutsideField}
+use Rattle.instructions.specs.declared.instruction.Awaited.{Awaited}
+use Rattle.instructions.specs.declared.instruction.Awaited.the-variants as awaited
+use Rattle.instructions.specs.declared.instruction.Instruction.{Instruction}
+use Rattle.instructions.specs.declared.read.Reading.{Reading}
+use Rattle.instructions.specs.declared.read.Reading.the-variants as reading
+use Rattle.instructions.specs.declared.write.Writing.{Writing}
+use Rattle.instructions.proofs.Unique.{read-one, written-one, read-some, unread-4, number-written-6}
+use Rattle.instructions.proofs.Fits.{Fits}
+use Rattle.registers.specs.Registers.{outside}
+use Rattle.registers.specs.declared.Registers.{Registers}
+use Rattle.registers.proofs.InRange.{ranged, ranges, powered-one, powered-ranged}
+use Rattle.controller.specs.State.{afterBy}
+use Rattle.controller.specs.Cycle.{outcome, cycleNumber}
+use Rattle.controller.proofs.Ranges.{stays-ranged}
+use Rattle.controller.proofs.Unique.{cycled-one, number-exactly}
+use Rattle.glass.specs.Frame.{toldShown, refusal}
+use Rattle.glass.specs.Power.{toldPower}
+use Rattle.glass.specs.Voltage.{Fraction, v0Of, toldVoltage, v0Of0717, toldVoltage0717}
+use Rattle.glass.proofs.Promised.{power-one, voltage-one, voltage-0717-one, shown-one}
+use Rattle.streams.specs.Length.{updateLength}
+use Rattle.planner.specs.Pictures.{misfit}
+use Rattle.planner.specs.First.{toldFound}
+use Rattle.planner.specs.Count.{toldCount}
+use Rattle.planner.specs.Sent.{updateRefusal, redrawRefusal, IsUpdate, IsRedraw}
+use Rattle.planner.specs.declared.count.Count.{Count}
+use Rattle.planner.specs.declared.count.Count.the-variants as count
+use Rattle.planner.proofs.Exactly.{RightSize, ShortOutput, misfit-yes, misfit-no, wrong-size, right-size}
+use Rattle.planner.proofs.Scanning.{first-given}
+use Rattle.planner.proofs.Promised.{first-one, first-1, length-one, update-one, update-1, update-5, update-only, redraw-one, redraw-1, redraw-6, redraw-5, redraw-only}
+use Rattle.state.specs.Packed.{packed, unpacked, awaitedOf}
+use Rattle.state.specs.Unfit.{unfit, unfitNumber}
+use Rattle.face.specs.Chip.{PowerUpOut, CycleOut, FrameOut, PowerOut, VoltageOut, VoltageOut0717}
+use Rattle.face.specs.Bytes.{named, WrittenIf, ReadOut, WriteOut}
+use Rattle.face.specs.Pictures.{FirstOut, LengthOut, UpdateOut, RedrawOut}
+use Rattle.state.proofs.Accepting.{unfit-some, Accepted, packed-accepted, accepted-left}
+
+-- ---- power-up
+
+pub power-up-one : {k : Sheet} {s s′ : List ℕ} {r r′ : ℕ} → PowerUpOut k s r → PowerUpOut k s′ r′ → (s ≡ s′) × (r ≡ r′)
+power-up-one f g = (f .left ∙ ap packed (powered-one (f .promised) (g .promised)) ∙ sym (g .left), f .number ∙ sym (g .number))
+
+pub power-up-0 : {k : Sheet} {s : List ℕ} {r : ℕ} → PowerUpOut k s r → r ≡ 0
+power-up-0 f = f .number
+
+pub power-up-accepted : (k : Sheet) → Sensible k → {s : List ℕ} {r : ℕ} → PowerUpOut k s r → Accepted k s
+power-up-accepted k g f =
+    subst (Accepted k) (sym (f .left)) (packed-accepted k (f .registers) (ranged k _ (powered-ranged k g (f .registers) (f .promised))))
+
+-- ---- one cycle
+
+module _ (k : Sheet) (s m : List ℕ) (kind value read byte : ℕ) where
+  pub cycle-one : {s₁ s₂ m₁ m₂ : List ℕ} {read₁ read₂ byte₁ byte₂ r₁ r₂ : ℕ}
+      → CycleOut k s m kind value read byte s₁ m₁ read₁ byte₁ r₁ → CycleOut k s m kind value read byte s₂ m₂ read₂ byte₂ r₂
+      → (s₁ ≡ s₂) × (m₁ ≡ m₂) × (read₁ ≡ read₂) × (byte₁ ≡ byte₂) × (r₁ ≡ r₂)
+  cycle-one f g =
+      let p = if-both (unfit s) (f .promised) (g .promised) (λ p q. (p .0 ∙ sym (q .0), p .1 ∙ sym (q .1))) (λ p q. cycled-one p q) in
+      let e = p .0 in (
+        f .told .state-left ∙ ap (λ a. leftBy packed s (outcome a .registers)) e ∙ sym (g .told .state-left),
+        p .1,
+        f .told .read-left ∙ ap (λ a. leftBy (λ (b : ℕ). 1) read (outcome a .byte)) e ∙ sym (g .told .read-left),
+        f .told .byte-left ∙ ap (λ a. leftBy (λ (b : ℕ). b) byte (outcome a .byte)) e ∙ sym (g .told .byte-left),
+        f .told .number ∙ ap (λ a. outcome a .number) e ∙ sym (g .told .number),
+      )
+
+  module _ (h : value < 256) {s′ m′ : List ℕ} {read′ byte′ r : ℕ} (f : CycleOut k s m kind value read byte s′ m′ read′ byte′ r) where
+    pub cycle-number : r ≡ cond (unfit s) (unfitNumber (misfit (k .width) m)) (cycleNumber k (length m) (unpacked s) kind value)
+    cycle-number = f .told .number ∙ if-split (unfit s) (f .promised)
+        (λ t p. ap (λ a. outcome a .number) (p .0) ∙ rw t refl)
+        (λ t p. ap (λ o. o .number) (p .tells) ∙ number-exactly k (unpacked s) value h m kind ∙ rw t refl)
+
+    pub cycle-0 : Exactly (r ≡ 0) ((unfit s ≡ false) × (cycleNumber k (length m) (unpacked s) kind value ≡ 0))
+    cycle-0 = then (same-number cycle-number) (past (unfit s) _ _ 0 (unfit-some (misfit (k .width) m)))
+
+  -- a state that is accepted stays one: whatever the cycle, the state that it leaves is fit and in range again
+  pub cycle-again : Sensible k → {s′ m′ : List ℕ} {read′ byte′ r : ℕ} → CycleOut k s m kind value read byte s′ m′ read′ byte′ r → Accepted k s → Accepted k s′
+  cycle-again g f a = if-split (unfit s) (f .promised) (λ t p. absurd (subst T (sym t ∙ a .0) tt))
+      (λ t p. accepted-left k s (outcome (f .answer) .registers) a
+      (λ q e. subst (λ (x : Option Registers). outside k (afterBy (unpacked s) x) ≡ false) e
+      (subst (λ o. outside k (afterBy (unpacked s) (o .registers)) ≡ false) (sym (p .tells))
+      (ranged k _ (stays-ranged k g (unpacked s) m kind value (ranges k (unpacked s) (a .1))))))
+      (f .told .state-left))
+
+-- ---- the glass
+
+module _ (k : Sheet) (s m frame : List ℕ) where
+  pub frame-one : {l l′ : List ℕ} {r r′ : ℕ} → FrameOut k s m frame l r → FrameOut k s m frame l′ r′ → (l ≡ l′) × (r ≡ r′)
+  frame-one f g =
+      let p = if-both (unfit s) (f .promised) (g .promised) (λ p q. (p .0 ∙ sym (q .0), p .1 ∙ sym (q .1))) (λ p q. shown-one p q) in
+      (p .1, f .number ∙ ap (λ a. toldShown a .number) (p .0) ∙ sym (g .number))
+
+  module _ {l : List ℕ} {r : ℕ} (f : FrameOut k s m frame l r) where
+    pub frame-number : r ≡ cond (unfit s) (unfitNumber (misfit (k .width) m || misfit (k .width) frame)) (refusal k (unpacked s) (length m) (length frame))
+    frame-number = f .number ∙ if-split (unfit s) (f .promised)
+        (λ t p. ap (λ a. toldShown a .number) (p .0) ∙ rw t refl)
+        (λ t p. ap (λ o. o .number) (p .tells) ∙ number-number (refusal k (unpacked s) (length m) (length frame)) tt ∙ rw t refl)
+
+    pub frame-0 : Exactly (r ≡ 0) ((unfit s ≡ false) × (refusal k (unpacked s) (length m) (length frame) ≡ 0))
+    frame-0 = then (same-number frame-number) (past (unfit s) _ _ 0 (unfit-some (misfit (k .width) m || misfit (k .width) frame)))
+
+module _ (k : Sheet) (s : List ℕ) (answer : ℕ) where
+  pub power-state-one : {a b r r′ : ℕ} → PowerOut k s answer a r → PowerOut k s answer b r′ → (a ≡ b) × (r ≡ r′)
+  power-state-one f g =
+      answers-one (ap toldPower (if-both (unfit s) (f .promised) (g .promised) (λ p q. p ∙ sym q) (λ p q. power-one p q))) (f .answers) (g .answers)
+
+  module _ {a r : ℕ} (f : PowerOut k s answer a r) where
+    pub power-state-number : r ≡ cond (unfit s) outOfRange (cond (outside k (unpacked s)) outOfRange 0)
+    power-state-number = f .answers .number ∙ if-split (unfit s) (f .promised)
+        (λ t p. ap (λ a. toldPower a .number) p ∙ rw t refl)
+        (λ t p. ap (λ o. o .number) (p .tells) ∙ test-number (outside k (unpacked s)) outOfRange _ ∙ rw t refl)
+
+    pub power-state-0 : Exactly (r ≡ 0) (Accepted k s)
+    power-state-0 =
+        then (same-number power-state-number)
+        (then (past (unfit s) outOfRange _ 0 (λ e. omega arith)) (both (λ e. e, λ e. e) (only (outside k (unpacked s)) outOfRange (λ e. omega arith))))
+
+-- what is told of V0, whichever chip's it is, is refused with this number and no other
+module _ (resistor contrast : ℕ) (x : Fraction) {t : Told Fraction} (e : t ≡ cond (ltb 7 resistor || ltb 63 contrast) (refused outOfRange) (given x)) {r : ℕ} (n : r ≡ t .number) where
+  told-number : r ≡ cond (ltb 7 resistor || ltb 63 contrast) outOfRange 0
+  told-number = n ∙ ap (λ o. o .number) e ∙ test-number (ltb 7 resistor || ltb 63 contrast) outOfRange x
+
+  told-0 : Exactly (r ≡ 0) ((resistor ≤ 7) × (contrast ≤ 63))
+  told-0 =
+      then (same-number told-number)
+      (then (only (ltb 7 resistor || ltb 63 contrast) outOfRange (λ e. omega arith)) (
+        λ e. (ltb-false 7 resistor (or-left (ltb 7 resistor) (ltb 63 contrast) e), ltb-false 63 contrast (or-right (ltb 7 resistor) (ltb 63 contrast) e)),
+        λ h. rw (le-ltb 7 resistor (h .0), le-ltb 63 contrast (h .1)),
+      ))
+
+module _ (resistor contrast before : ℕ) where
+  pub v0-one : {a b r r′ : ℕ} → VoltageOut resistor contrast before a r → VoltageOut resistor contrast before b r′ → (a ≡ b) × (r ≡ r′)
+  v0-one f g = answers-one (ap toldVoltage (voltage-one (f .promised) (g .promised))) (f .answers) (g .answers)
+
+  module _ {a r : ℕ} (f : VoltageOut resistor contrast before a r) where
+    pub v0-number : r ≡ cond (ltb 7 resistor || ltb 63 contrast) outOfRange 0
+    v0-number = told-number resistor contrast (v0Of resistor contrast) (f .promised .tells) (f .answers .number)
+
+    pub v0-0 : Exactly (r ≡ 0) ((resistor ≤ 7) × (contrast ≤ 63))
+    v0-0 = told-0 resistor contrast (v0Of resistor contrast) (f .promised .tells) (f .answers .number)
+
+  pub v0-0717-one : {a b r r′ : ℕ} → VoltageOut0717 resistor contrast before a r → VoltageOut0717 resistor contrast before b r′ → (a ≡ b) × (r ≡ r′)
+  v0-0717-one f g = answers-one (ap toldVoltage0717 (voltage-0717-one (f .promised) (g .promised))) (f .answers) (g .answers)
+
+  module _ {a r : ℕ} (f : VoltageOut0717 resistor contrast before a r) where
+    pub v0-0717-number : r ≡ cond (ltb 7 resistor || ltb 63 contrast) outOfRange 0
+    v0-0717-number = told-number resistor contrast (v0Of0717 resistor contrast) (f .promised .tells) (f .answers .number)
+
+    pub v0-0717-0 : Exactly (r ≡ 0) ((resistor ≤ 7) × (contrast ≤ 63))
+    v0-0717-0 = told-0 resistor contrast (v0Of0717 resistor contrast) (f .promised .tells) (f .answers .number)
+
+-- ---- instructions by number
+
+module _ (k : Sheet) (aw byte : ℕ) (before : ℕ × ℕ) where
+  pub read-out-one : {a b : ℕ × ℕ} {r r′ : ℕ} → ReadOut k aw byte before a r → ReadOut k aw byte before b r′ → (a ≡ b) × (r ≡ r′)
+  read-out-one f g =
+      answers-one (ap toldReading (if-both (ltb 2 aw) (f .promised) (g .promised) (λ p q. p ∙ sym q) (λ p q. read-one p q))) (f .answers) (g .answers)
+
+  -- the reader's number: 4 where nothing is awaited and the byte is unassigned
+  unassigned-number : byte < 256 → (w : Awaited) (a : Reading) → IsRead k w byte a → toldReading a .number ≡ cond (nothingAwaited w && not (assigned byte)) 4 0
+  unassigned-number h awaited.Nothing (reading.ReadAs i) p = rw (read-some k byte h i (sym (ap (λ t. t .value) (p .tells))))
+  unassigned-number h awaited.Contrast (reading.ReadAs i) p = refl
+  unassigned-number h awaited.Indicator (reading.ReadAs i) p = refl
+  unassigned-number h w (reading.Unread n) p = let u = unread-4 k byte h w n p in rw (u .1, u .2) (u .0)
+
+  module _ (h : byte < 256) {a : ℕ × ℕ} {r : ℕ} (f : ReadOut k aw byte before a r) where
+    pub read-number : r ≡ cond (ltb 2 aw) outOfRange (cond (nothingAwaited (awaitedOf aw) && not (assigned byte)) 4 0)
+    read-number = f .answers .number ∙ if-split (ltb 2 aw) (f .promised)
+        (λ t p. ap (λ a. toldReading a .number) p ∙ rw t refl)
+        (λ t p. unassigned-number h (awaitedOf aw) (f .answer) p ∙ rw t refl)
+
+    pub read-0 : Exactly (r ≡ 0) ((aw ≤ 2) × ((nothingAwaited (awaitedOf aw) && not (assigned byte)) ≡ false))
+    read-0 =
+        then (same-number read-number)
+        (then (past (ltb 2 aw) outOfRange _ 0 (λ e. omega arith))
+        (both (ltb-false 2 aw, le-ltb 2 aw) (only (nothingAwaited (awaitedOf aw) && not (assigned byte)) 4 (λ e. omega arith))))
+
+-- a number and a value name an instruction, and its value is inside its field
+abbrev pub Writable : Sheet → Option Instruction → Type 0
+Writable k (some i) = Fits k i
+Writable k none = ⊥
+
+-- they name none, or a value outside its field
+abbrev pub Unwritable : Sheet → Option Instruction → Type 0
+Unwritable k (some i) = OutsideField k i
+Unwritable k none = Unit {0}
+
+module _ (k : Sheet) (number value byte : ℕ) where
+  written-if-one : (x : Option Instruction) (a b : Writing) → WrittenIf k x a → WrittenIf k x b → a ≡ b
+  written-if-one (some i) a b p q = written-one p q
+  written-if-one none a b p q = p ∙ sym q
+
+  pub write-out-one : {a b r r′ : ℕ} → WriteOut k number value byte a r → WriteOut k number value byte b r′ → (a ≡ b) × (r ≡ r′)
+  write-out-one f g =
+      answers-one (ap toldWriting (written-if-one (named number value) (f .answer) (g .answer) (f .promised) (g .promised))) (f .answers) (g .answers)
+
+  writable : (x : Option Instruction) (a : Writing) (r : ℕ) → WrittenIf k x a → r ≡ toldWriting a .number → Exactly (r ≡ 0) (Writable k x)
+  writable (some i) a r p e = same-number (e ∙ ap (λ t. t .number) (p .tells))
+  writable none a r p e = (λ z. let n : outsideField ≡ 0 = sym (ap (λ a. toldWriting a .number) p) ∙ sym e ∙ z in omega arith, λ z. absurd z)
+
+  pub write-0 : {a r : ℕ} → WriteOut k number value byte a r → Exactly (r ≡ 0) (Writable k (named number value))
+  write-0 {r = r} f = writable (named number value) (f .answer) r (f .promised) (f .answers .number)
+
+  unwritable : (x : Option Instruction) (a : Writing) (r : ℕ) → WrittenIf k x a → r ≡ toldWriting a .number → Exactly (r ≡ outsideField) (Unwritable k x)
+  unwritable (some i) a r p e = then (same-number (e ∙ ap (λ t. t .number) (p .tells))) (number-written-6 k i)
+  unwritable none a r p e = (λ z. tt, λ z. e ∙ ap (λ a. toldWriting a .number) p)
+
+  -- 6 exactly if they name no instruction, or its value is outside its field
+  pub write-6 : {a r : ℕ} → WriteOut k number value byte a r → Exactly (r ≡ outsideField) (Unwritable k (named number value))
+  write-6 {r = r} f = unwritable (named number value) (f .answer) r (f .promised) (f .answers .number)
+
+-- ---- pictures
+
+-- both outputs have room for so many bytes
+abbrev pub Room : ℕ → List ℕ → List ℕ → Type 0
+Room need out kinds = (need ≤ length out) × (need ≤ length kinds)
+
+room : (need : ℕ) (out kinds : List ℕ) → (ShortOutput need out kinds → ⊥) → Room need out kinds
+room need out kinds h = (
+  less (length out) need (λ l. absurd (h (inl l))) (λ l. l),
+  less (length kinds) need (λ l. absurd (h (inr l))) (λ l. l),
+)
+
+no-short : (need : ℕ) (out kinds : List ℕ) → Room need out kinds → ShortOutput need out kinds → ⊥
+no-short need out kinds h (inl l) = omega arith
+no-short need out kinds h (inr l) = omega arith
+
+-- an answer that is not refused
+not-so : (n : ℕ) {a : Count} → toldCount a .number ≡ 0 → n ≢ 0 → a ≢ count.Refused n
+not-so n z h e = h (sym (ap (λ a. toldCount a .number) e) ∙ z)
+
+module _ (W : ℕ) (recorded wanted : List ℕ) where
+  module _ (before : ℕ × ℕ × ℕ) where
+    pub first-out-one : {a b : ℕ × ℕ × ℕ} {r r′ : ℕ} → FirstOut W recorded wanted before a r → FirstOut W recorded wanted before b r′ → (a ≡ b) × (r ≡ r′)
+    first-out-one f g = answers-one (ap toldFound (first-one (f .promised) (g .promised))) (f .answers) (g .answers)
+
+    module _ {a : ℕ × ℕ × ℕ} {r : ℕ} (f : FirstOut W recorded wanted before a r) where
+      pub first-number : r ≡ cond (misfit W recorded || misfit W wanted) wrongSize 0
+      first-number = f .answers .number ∙ split (misfit W recorded || misfit W wanted)
+          (λ t. ap (λ a. toldFound a .number) (first-1 W recorded wanted (f .answer) (f .promised) .1 (wrong-size W recorded wanted .0 t)) ∙ rw t refl)
+          (λ t. ap (λ o. o .number) (f .promised .tells ∙ first-given W recorded wanted t) ∙ rw t refl)
+
+      pub first-0 : Exactly (r ≡ 0) (RightSize W recorded wanted)
+      first-0 =
+          then (same-number first-number)
+          (then (only (misfit W recorded || misfit W wanted) wrongSize (λ e. omega arith)) (right-size W recorded wanted))
+
+  module _ (bytes : ℕ) where
+    pub length-out-one : {a b r r′ : ℕ} → LengthOut W recorded wanted bytes a r → LengthOut W recorded wanted bytes b r′ → (a ≡ b) × (r ≡ r′)
+    length-out-one f g = answers-one (ap toldCount (length-one (f .promised) (g .promised))) (f .answers) (g .answers)
+
+    module _ {a r : ℕ} (f : LengthOut W recorded wanted bytes a r) where
+      pub length-number : r ≡ cond (misfit W recorded || misfit W wanted) wrongSize 0
+      length-number =
+          f .answers .number ∙ ap (λ o. o .number) (f .promised .tells)
+          ∙ test-number (misfit W recorded || misfit W wanted) wrongSize (updateLength W recorded wanted)
+
+      pub length-0 : Exactly (r ≡ 0) (RightSize W recorded wanted)
+      length-0 =
+          then (same-number length-number)
+          (then (only (misfit W recorded || misfit W wanted) wrongSize (λ e. omega arith)) (right-size W recorded wanted))
+
+  module _ (out kinds : List ℕ) (bytes : ℕ) where
+    pub update-out-one : {o k o′ k′ : List ℕ} {a b r r′ : ℕ} → UpdateOut W recorded wanted out kinds bytes o k a r → UpdateOut W recorded wanted out kinds bytes o′ k′ b r′
+        → (o ≡ o′) × (k ≡ k′) × (a ≡ b) × (r ≡ r′)
+    update-out-one f g =
+        let p = update-one W recorded wanted (f .promised) (g .promised) in
+        let q = answers-one (ap toldCount (p .0)) (f .answers) (g .answers) in
+        (p .1, p .2, q .0, q .1)
+
+    pub update-number : {o k : List ℕ} {a r : ℕ} → UpdateOut W recorded wanted out kinds bytes o k a r → r ≡ updateRefusal W recorded wanted out kinds
+    update-number f = f .answers .number ∙ ap (λ o. o .number) (f .promised .tells) ∙ number-number (updateRefusal W recorded wanted out kinds) _
+
+    update-given : (a : Count) (o k : List ℕ) → IsUpdate W recorded wanted out kinds a o k
+        → Exactly (toldCount a .number ≡ 0) (RightSize W recorded wanted × Room (updateLength W recorded wanted) out kinds)
+    update-given a o k p = (
+      λ z. split (misfit W recorded || misfit W wanted)
+          (λ t. absurd (not-so 1 z (λ e. omega arith) (update-1 W recorded wanted out kinds a o k p .1 (wrong-size W recorded wanted .0 t))))
+          (λ t. let fit = right-size W recorded wanted .0 t in
+          (fit, room (updateLength W recorded wanted) out kinds (λ h. not-so 5 z (λ e. omega arith) (update-5 W recorded wanted out kinds a o k p .1 (fit, h))))),
+      update-back a o k p,
+    )
+      where
+        update-back : (a : Count) (o k : List ℕ) → IsUpdate W recorded wanted out kinds a o k
+            → RightSize W recorded wanted × Room (updateLength W recorded wanted) out kinds → toldCount a .number ≡ 0
+        update-back (count.Bytes n) o k p h = refl
+        update-back (count.Refused n) o k p h = absurd (⊎-elim
+            (λ e. ⊎-elim (λ q. q (h .0 .0)) (λ q. q (h .0 .1)) (update-1 W recorded wanted out kinds (count.Refused n) o k p .0 (ap count.Refused e)))
+            (λ e. no-short (updateLength W recorded wanted) out kinds (h .1) (update-5 W recorded wanted out kinds (count.Refused n) o k p .0 (ap count.Refused e) .1))
+            (update-only W recorded wanted out kinds n o k p))
+
+    pub update-0 : {o k : List ℕ} {a r : ℕ} → UpdateOut W recorded wanted out kinds bytes o k a r
+        → Exactly (r ≡ 0) (RightSize W recorded wanted × Room (updateLength W recorded wanted) out kinds)
+    update-0 {o} {k} f = then (same-number (f .answers .number)) (update-given (f .answer) o k (f .promised))
+
+module _ (W : ℕ) (wanted : List ℕ) (contrast : ℕ) (out kinds : List ℕ) (bytes : ℕ) where
+  pub redraw-out-one : {o k o′ k′ : List ℕ} {a b r r′ : ℕ} → RedrawOut W wanted contrast out kinds bytes o k a r → RedrawOut W wanted contrast out kinds bytes o′ k′ b r′
+      → (o ≡ o′) × (k ≡ k′) × (a ≡ b) × (r ≡ r′)
+  redraw-out-one f g =
+      let p = redraw-one W wanted contrast (f .promised) (g .promised) in
+      let q = answers-one (ap toldCount (p .0)) (f .answers) (g .answers) in
+      (p .1, p .2, q .0, q .1)
+
+  pub redraw-number : {o k : List ℕ} {a r : ℕ} → RedrawOut W wanted contrast out kinds bytes o k a r → r ≡ redrawRefusal W wanted contrast out kinds
+  redraw-number f = f .answers .number ∙ ap (λ o. o .number) (f .promised .tells) ∙ number-number (redrawRefusal W wanted contrast out kinds) _
+
+  redraw-given : (a : Count) (o k : List ℕ) → IsRedraw W wanted contrast out kinds a o k
+      → Exactly (toldCount a .number ≡ 0) ((length wanted ≡ 9 * W) × ((contrast ≤ 63) × Room (4 + 9 * (W + 3)) out kinds))
+  redraw-given a o k p = (
+    λ z. split (misfit W wanted)
+        (λ t. absurd (not-so 1 z (λ e. omega arith) (redraw-1 W wanted contrast out kinds a o k p .1 (misfit-yes W wanted .0 t))))
+        (λ t. let fit = misfit-no W wanted .0 t in
+        less 63 contrast
+        (λ l. absurd (not-so 6 z (λ e. omega arith) (redraw-6 W wanted contrast out kinds a o k p .1 (fit, l))))
+        (λ l. (fit, (l, room (4 + 9 * (W + 3)) out kinds (λ h. not-so 5 z (λ e. omega arith) (redraw-5 W wanted contrast out kinds a o k p .1 (fit, (l, h)))))))),
+    redraw-back a o k p,
+  )
+    where
+      redraw-back : (a : Count) (o k : List ℕ) → IsRedraw W wanted contrast out kinds a o k
+          → (length wanted ≡ 9 * W) × ((contrast ≤ 63) × Room (4 + 9 * (W + 3)) out kinds) → toldCount a .number ≡ 0
+      redraw-back (count.Bytes n) o k p h = refl
+      redraw-back (count.Refused n) o k p h = absurd (⊎-elim
+          (λ e. redraw-1 W wanted contrast out kinds (count.Refused n) o k p .0 (ap count.Refused e) (h .0))
+          (⊎-elim
+          (λ e. let l = redraw-6 W wanted contrast out kinds (count.Refused n) o k p .0 (ap count.Refused e) .1 in omega (arith, h .1 .0))
+          (λ e. no-short (4 + 9 * (W + 3)) out kinds (h .1 .1) (redraw-5 W wanted contrast out kinds (count.Refused n) o k p .0 (ap count.Refused e) .1 .1)))
+          (redraw-only W wanted contrast out kinds n o k p))
+
+  pub redraw-0 : {o k : List ℕ} {a r : ℕ} → RedrawOut W wanted contrast out kinds bytes o k a r
+      → Exactly (r ≡ 0) ((length wanted ≡ 9 * W) × ((contrast ≤ 63) × Room (4 + 9 * (W + 3)) out kinds))
+  redraw-0 {o} {k} f = then (same-number (f .answers .number)) (redraw-given (f .answer) o k (f .promised))

@@ -1,0 +1,58 @@
+-- `face::bytes::value_of` meets its contract: each arm of the match is a row of the definition.
+-- Assumes nothing.
+use borrow.Author.Needs.{needs}
+use Rattle.face.proofs.bytes.value_of.Statement.{statement}
+use Rattle.face.proofs.bytes.value_of.Tie as tie
+
+pub value-of-spec : {M : Type 1} → statement M
+value-of-spec =
+    tie.close
+    (tie.spec
+    (λ c. search needs)
+    (λ c. search needs)
+    (λ c. search needs)
+    (λ c. search needs)
+    (λ c. search needs)
+    (λ c. search needs)
+    (λ c. search needs)
+    (λ c. search needs)
+    (λ c κs. search needs)
+    (λ c. search needs)
+    (λ c κs. search needs)
+    (λ c. search needs)
+    (λ c κs. search needs)
+    (λ c. search needs)
+    (λ c κs. search needs)
+    (λ c. search needs)
+    (λ c. search needs)
+    (λ c. search needs)
+    (λ c. search needs)
+    (λ c κs. search needs)
+    (λ c. search needs)
+    (λ c. search needs)
+    (λ c κs. search needs)
+    (λ c. search needs)
+    (λ c. search needs)
+    (λ c. search needs)
+    (λ c. search needs)
+    (λ c. rw (c .before .instruction .given .1))
+    (λ c. rw (c .before .instruction2 .given .1))
+    (λ c. rw (c .before .instruction3 .given .1))
+    (λ c. rw (c .before .instruction4 .given .1))
+    (λ c. rw (c .before .instruction5 .given .1))
+    (λ c. rw (c .enum-told .given .1))
+    (λ c. rw (c .before .instruction6 .given .1))
+    (λ c. rw (c .before .before .instruction7 .given .1) (c .flag-byte .ensures))
+    (λ c. rw (c .before .before .instruction8 .given .1) (c .flag-byte2 .ensures))
+    (λ c. rw (c .before .before .instruction9 .given .1) (c .flag-byte3 .ensures))
+    (λ c. rw (c .before .before .instruction10 .given .1) (c .flag-byte4 .ensures))
+    (λ c. rw (c .enum-told2 .given .1))
+    (λ c. rw (c .enum-told3 .given .1))
+    (λ c. rw (c .before .instruction11 .given .1))
+    (λ c. rw (c .before .before .instruction12 .given .1) (c .flag-byte5 .ensures))
+    (λ c. rw (c .before .instruction13 .given .1))
+    (λ c. rw (c .before .before .instruction14 .given .1) (c .flag-byte6 .ensures))
+    (λ c. rw (c .enum-told4 .given .1))
+    (λ c. rw (c .enum-told5 .given .1))
+    (λ c. rw (c .enum-told6 .given .1))
+    (λ c. rw (c .enum-told7 .given .1)))

@@ -69,8 +69,9 @@ static void pictures(void)
 
 static const struct { const char *name; uint8_t kind, value; } cycles[] = {
     { "instruction B3, page", 0, 0xb3 }, { "instruction 1C, column", 0, 0x1c }, { "instruction 40, start line", 0, 0x40 },
-    { "instruction AF, display on", 0, 0xaf }, { "instruction E3, nothing", 0, 0xe3 }, { "instruction FF, refused", 0, 0xff },
-    { "data write", 1, 0x5a }, { "status read", 2, 0 }, { "data read", 3, 0 }, { "pin low", 4, 0 }, { "pin high", 5, 0 } };
+    { "instruction AF, display on", 0, 0xaf }, { "instruction E2, reset", 0, 0xe2 }, { "instruction E3, nothing", 0, 0xe3 },
+    { "instruction FF, refused", 0, 0xff }, { "data write", 1, 0x5a }, { "status read", 2, 0 }, { "data read", 3, 0 }, { "pin low", 4, 0 },
+    { "pin high", 5, 0 } };
 enum { KINDS = sizeof cycles / sizeof cycles[0] };
 
 /* page 3, display on, and the column counter locked, so that each call of a series is the same; the model has the same bytes in the

@@ -13,7 +13,7 @@
  *   - a high column byte has one free bit, bit 3: 18-1F are read as 10-17, and a high part (PANEL_COLUMN_HIGH) of 8 or more is refused
  *     with 6 where it is to be written;
  *   - the glass has rows 0 to 53 and the icon row. Rows 54 to 63 of a frame are 0, with reverse and entire display too;
- *   - the resistor is 4 at power-up and after reset pin low;
+ *   - the resistor is 4 at power-up, after reset pin low and after E2;
  *   - V0 is a number of twenty-sevenths.
  * A state of the one chip is not one of the other: keep each with its own calls. */
 #ifndef PANEL0717_H

@@ -1,8 +1,9 @@
-/* The panel model of model.h, written from document 01 alone and, for the second chip, from order 1.
+/* The panel model of model.h, written from document 01 and order 5 alone and, for the second chip, from order 1.
    Compiled as it is, this file is the model of the KS0713; compiled with -include ks0717.h it is that of the KS0717, under
    the names and with the numbers given there. The chips differ in the numbers of the first block below and in nothing else.
    Sentences in quotes are document 01's own, and after "Order 1:" the order's, which hold for the KS0717 in place of
-   those of 01; "Decision" marks a point settled by combining them.
+   those of 01, and after "Order 5:" that order's, which hold for both chips; "Decision" marks a point settled by
+   combining them.
    Words in the form @name are markers for faults.txt (here and in ks0717.h) and mean nothing else.
 
    Nothing here checks for null pointers, and lent buffers are taken not to overlap one another
@@ -42,6 +43,8 @@
 #define PICTURE (PAGES * COLUMNS)
 /* "4 + 9·135 = 1,219 bytes". Order 1: "the redraw 931" */
 #define REDRAW (4u + PAGES * (COLUMNS + 3u))
+/* "Start values are 0 and off, except contrast 32 (house)." The same on both chips; the pin and E2 take it from here. */
+#define CONTRAST_START 32u /* @start_contrast */
 
 /* The words of the register "awaited". */
 #define AWAITS_NOTHING 0u
@@ -141,7 +144,7 @@ static void pin_goes_low(struct model_registers *r)
     r->page = 0;
     r->column = 0;
     r->start_line = 0;
-    r->contrast = 32; /* @start_contrast */
+    r->contrast = CONTRAST_START;
     r->resistor = RESISTOR_START;
     r->power = 0;
     r->bias = 0;
@@ -258,7 +261,7 @@ uint8_t model_read_instruction(uint8_t awaited, uint8_t byte, uint8_t *number, u
         n = I_MODIFY_OFF;
         v = 0;
     } else if (byte == 0xE2u) {
-        /* "E2 | reset: start line, column, page and SHL to 0, nothing else" */
+        /* "E2 | reset" */
         n = I_RESET;
         v = 0;
     } else if (byte == 0xE3u) {
@@ -318,7 +321,7 @@ uint8_t model_write_instruction(uint8_t number, uint8_t value, uint8_t *byte)
     /* "E0 / EE | modify-read on, saving the column / off, restoring it" */
     case I_MODIFY_ON: first = 0xE0; top = 0; break;
     case I_MODIFY_OFF: first = 0xEE; top = 0; break;
-    /* "E2 | reset: start line, column, page and SHL to 0, nothing else" */
+    /* "E2 | reset" */
     case I_RESET: first = 0xE2; top = 0; break;
     /* "E3 | nothing" */
     case I_NOTHING: first = 0xE3; top = 0; break;
@@ -413,13 +416,21 @@ static void carry_out(struct model_registers *r, uint8_t number, uint8_t value)
             r->saved_column = 0;
         }
         break;
-    /* "E2 | reset: start line, column, page and SHL to 0, nothing else"
-       Decision: "nothing else", so modify-read and its saved column stay. */
+    /* "E2 | reset: start line, column, page and SHL to 0". Order 5: "From now on E2 also forgets the saved column, turns
+       the indicator off and its value to 0, and puts resistor and contrast to their start values. All else stays."
+       Decision: this stands in place of the row's "nothing else". The saved column is forgotten, not restored: modify-read
+       is off and the column 0. The start values are the chip's own, those of pin_goes_low. "All else" is power, bias, ADC,
+       reverse, entire display, display on, holder and pin; an E2 that is awaited is the second byte and not this one. */
     case I_RESET:
         r->start_line = 0;
-        r->column = 0;
+        r->column = 0; /* @reset_column */
         r->page = 0;
         r->shl = 0; /* @reset_shl */
+        r->modify_read = r->saved_column = 0; /* @reset_saved */
+        r->indicator = 0; /* @reset_indicator */
+        r->indicator_value = 0; /* @reset_value */
+        r->resistor = RESISTOR_START; /* @reset_resistor */
+        r->contrast = CONTRAST_START; /* @reset_contrast */
         break;
     /* "E3 | nothing" */
     default:

@@ -1,4 +1,4 @@
-/* An independent model of the panel software, written from document 01 alone and, for the second chip, from order 1.
+/* An independent model of the panel software, written from document 01 and order 5 alone and, for the second chip, from order 1.
    Plain C, no library calls.
    Two chips, one source: the calls model_... are the KS0713's (model.c as it is), the calls model0717_... the KS0717's
    (model.c compiled with -include ks0717.h). Registers, numbers of instructions and answers have the same form on both.

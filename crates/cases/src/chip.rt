@@ -1,5 +1,5 @@
-// The controller: each instruction; page 9, status, the reset pin, and what makes no cycle. A line for each case: its cycles with
-// what they answer, then every register.
+// The controller: each instruction; page 9, status, the reset pin, what makes no cycle, and E2 once more. A line for each case:
+// its cycles with what they answer, then every register.
 use crate::buffers::zeros;
 use crate::print::byte;
 use crate::print::flag;
@@ -207,7 +207,7 @@ pub(crate) fn instructions() {
         prepared(),
         b"\x00\xac\xff\xff\x00\xad\xff\xff\x00\xad\x00\xfe\xff\xff\x00\xaf\xff\xff\x00\xb9\xff\xff\x00\xc0\xff\xff",
     );
-    // E0 to E3: modify-read on, and off again; reset; reset with 87 saved, and off after it; nothing.
+    // E0 to E3: modify-read on, and off again; reset; reset with 87 saved, and EE after it; nothing.
     run(
         prepared(),
         b"\x00\xe0\xff\xff\x00\xe0\x00\xee\xff\xff\x00\xe2\xff\xff\x00\xe0\x00\xe2\xff\xff\x00\xe0\x00\xe2\x00\xee\xff\xff\x00\xe3\xff\xff",
@@ -235,4 +235,14 @@ pub(crate) fn cycles() {
         altered(),
         b"\x02\x01\xff\xff\x05\x01\xff\xff\x06\x00\xff\xff",
     );
+}
+
+// E2 where every register is away from its start value: with the pin low; with contrast awaited, and once more with nothing awaited.
+// And as the indicator's byte.
+pub(crate) fn resets() {
+    run(
+        altered(),
+        b"\x00\xe2\xff\xff\x05\x00\x00\xe2\xff\xff\x05\x00\x00\xe2\x00\xe2\xff\xff",
+    );
+    run(power_up(), b"\x00\xad\x00\xe2\xff\xff");
 }

@@ -63,10 +63,10 @@ pub(crate) fn heading() {
 }
 
 pub(crate) fn cycles() {
-    // At power-up the resistor is 4, and at pin low it is again.
+    // At power-up the resistor is 4, and at pin low and at E2 it is again.
     run(
         power_up_ks0717(),
-        b"\xff\xff\x00\x27\xff\xff\x00\x27\x04\x00\xff\xff",
+        b"\xff\xff\x00\x27\xff\xff\x00\x27\x04\x00\xff\xff\x00\x27\x00\xe2\xff\xff",
     );
     // Column 99, two writes: the first is stored, the second not; column 100. Both read back.
     run(

@@ -1,4 +1,4 @@
-// Document 01's cases that are run, and one case for each instruction: the output is compared with `stdout`.
+// Document 01's cases that are run, the orders', and one case for each instruction: the output is compared with `stdout`.
 mod buffers;
 mod chip;
 mod glass_cases;
@@ -9,6 +9,7 @@ mod streams;
 fn main() {
     chip::instructions();
     chip::cycles();
+    chip::resets();
     glass_cases::frames();
     glass_cases::powers();
     glass_cases::voltages();

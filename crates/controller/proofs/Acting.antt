@@ -68,17 +68,17 @@ does k s x r m e f =
 
 -- an instruction byte that is read as i, with whatever is awaited
 pub acts : (k : Sheet) → Sensible k → (s : State) (i : Instruction) (b : ℕ) → Restartable k s → readOf k (s .registers .awaited) b ≡ given i
-    → (number k s (0, b) ≡ 0) × (step k s (0, b) ≡ state (executed (s .registers) i) (s .memory)) × Restartable k (step k s (0, b))
+    → (number k s (0, b) ≡ 0) × (step k s (0, b) ≡ state (executed k (s .registers) i) (s .memory)) × Restartable k (step k s (0, b))
 unfolding carried kept
 acts k g s i b h e =
     let r = s .registers in
-    let d = does k s (0, b) (executed r i) (s .memory) (carries h 0 b refl ∙ rw e refl) (keeps h 0 b refl) in (
+    let d = does k s (0, b) (executed k r i) (s .memory) (carries h 0 b refl ∙ rw e refl) (keeps h 0 b refl) in (
       d .0,
       d .1,
       subst (Restartable k) (sym (d .1)) (record {
         long = h .long;
-        ranged = ranged k (executed r i) (executed-ranged k g r i (read-fits k g (r .awaited) b i e) (ranges k r (h .ranged)));
-        high = executed-pin r i ∙ h .high;
+        ranged = ranged k (executed k r i) (executed-ranged k g r i (read-fits k g (r .awaited) b i e) (ranges k r (h .ranged)));
+        high = executed-pin k r i ∙ h .high;
       }),
     )
 

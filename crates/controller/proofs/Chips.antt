@@ -35,7 +35,7 @@ viewOf s = record { page = s .registers .page; column = s .registers .column .0;
 module _ (k : Sheet) (g : Sensible k) (s : State) where
   -- accepted, ready stays, and the registers are as executed
   abbrev pub Obeyed : Instruction → ℕ → Type 0
-  Obeyed i b = (number k s (0, b) ≡ 0) × (step k s (0, b) ≡ state (executed (s .registers) i) (s .memory)) × Restartable k (step k s (0, b))
+  Obeyed i b = (number k s (0, b) ≡ 0) × (step k s (0, b) ≡ state (executed k (s .registers) i) (s .memory)) × Restartable k (step k s (0, b))
 
   -- where nothing is awaited
   pub obeys : Ready k s → (i : Instruction) (b : ℕ) → awaitedFor i ≡ awaited.Nothing → writeOf k i ≡ given b → Obeyed i b
@@ -57,7 +57,7 @@ module _ (k : Sheet) (g : Sensible k) (s : State) where
       record { restartable = e .2; quiet = ap (λ t. t .registers .awaited) (e .1) ∙ h .quiet }
 
 -- ready stays where the instruction leaves what is awaited
-pub still : (k : Sheet) (s : State) (i : Instruction) (b : ℕ) (g : Sensible k) → Obeyed k g s i b → executed (s .registers) i .awaited ≡ awaited.Nothing → Ready k (step k s (0, b))
+pub still : (k : Sheet) (s : State) (i : Instruction) (b : ℕ) (g : Sensible k) → Obeyed k g s i b → executed k (s .registers) i .awaited ≡ awaited.Nothing → Ready k (step k s (0, b))
 still k s i b g e q = record { restartable = e .2; quiet = ap (λ t. t .registers .awaited) (e .1) ∙ q }
 
 -- ---- a chip to update
@@ -93,10 +93,10 @@ module _ (k : Sheet) (g : Sensible k) (s : State) (h : Restartable k s) where
       × (step k s nopCycle .registers .«indicator_value» ≡ v)
 
   spent-as : (i : Instruction) (v : ℕ) → readOf k (s .registers .awaited) 0xe3 ≡ given i
-      → (executed (s .registers) i .awaited ≡ awaited.Nothing)
-      × (withRest (rest (s .registers)) (viewOf (state (executed (s .registers) i) (s .memory))) ≡ viewOf s)
-      × (settings (rest (executed (s .registers) i)) ≡ settings (rest (s .registers)))
-      × (executed (s .registers) i .«indicator_value» ≡ v)
+      → (executed k (s .registers) i .awaited ≡ awaited.Nothing)
+      × (withRest (rest (s .registers)) (viewOf (state (executed k (s .registers) i) (s .memory))) ≡ viewOf s)
+      × (settings (rest (executed k (s .registers) i)) ≡ settings (rest (s .registers)))
+      × (executed k (s .registers) i .«indicator_value» ≡ v)
       → Spent v
   spent-as i v q f =
       let e = acts k g s i 0xe3 h q in (
@@ -140,7 +140,7 @@ restartOf k g = record {
       let q : readOf k (step k s askCycle .registers .awaited) v ≡ given (ContrastValue v) =
       subst (λ a. readOf k a v ≡ given (ContrastValue v)) (sym (ap (λ t. t .registers .awaited) (d .1))) (ap (λ (x : ℕ). given (ContrastValue x)) (omega arith)) in
       let e = acts k g (step k s askCycle) (ContrastValue v) v (d .2) q in
-      let f = e .1 ∙ ap (λ t. state (executed (t .registers) (ContrastValue v)) (t .memory)) (d .1) in (
+      let f = e .1 ∙ ap (λ t. state (executed k (t .registers) (ContrastValue v)) (t .memory)) (d .1) in (
         e .0,
         record { restartable = e .2; quiet = ap (λ t. t .registers .awaited) f },
         ap (λ t. withRest (rest (s .registers)) (viewOf t)) f,

@@ -6,6 +6,7 @@ pub mod Unique
 pub mod Numbered
 pub mod Spelled
 pub mod Readers
+pub mod Resetting
 pub mod Refusals
 pub mod ShutOuts
 pub mod Turning

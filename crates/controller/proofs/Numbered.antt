@@ -33,7 +33,7 @@ status-so b = record { most = omega arith; some-number = λ e f. absurd (let z :
 read-so : (b : ℕ) (r : Registers) → Numbered (dataRead b r)
 read-so b r = record { most = omega arith; some-number = λ e f. absurd (let z : _≡_ {A = ℕ} 0 1 = cc in omega arith) }
 
-instructed-so : (k : Sheet) (r : Registers) (n : ℕ) (x : Option Instruction) → Proper k n x → Numbered (instructedBy r n x)
+instructed-so : (k : Sheet) (r : Registers) (n : ℕ) (x : Option Instruction) → Proper k n x → Numbered (instructedBy k r n x)
 instructed-so k r n (some i) h = done-so _
 instructed-so k r n none h = record { most = omega (arith, h); some-number = λ e f. omega (arith, h) }
 

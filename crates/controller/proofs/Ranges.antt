@@ -52,7 +52,7 @@ restored-ranged : (k : Sheet) (r : Registers) (m : ModifyRead) → savedOf m < k
 restored-ranged k r Off l h = h
 restored-ranged k r (On c) l h = omega arith
 
-pub executed-ranged : (k : Sheet) → Sensible k → (r : Registers) (i : Instruction) → Fits k i → Ranged k r → Ranged k (executed r i)
+pub executed-ranged : (k : Sheet) → Sensible k → (r : Registers) (i : Instruction) → Fits k i → Ranged k r → Ranged k (executed k r i)
 executed-ranged k g r (ColumnLow v) f h = omega arith
 executed-ranged k g r (ColumnHigh v) f h = omega (arith, in-field 0x10 (k .highs) v f)
 executed-ranged k g r (Resistor v) f h = omega (arith, in-field 0x20 8 v f)
@@ -72,7 +72,7 @@ executed-ranged k g r (Page v) f h = omega (arith, in-field 0xb0 16 v f)
 executed-ranged k g r (Shl x) f h = omega arith
 executed-ranged k g r ModifyReadOn f h = saved-ranged k r (r .«modify_read») h
 executed-ranged k g r ModifyReadOff f h = restored-ranged k r (r .«modify_read») (h .saved) h
-executed-ranged k g r Reset f h = omega (arith, g .high)
+executed-ranged k g r Reset f h = omega (arith, g .high, g .first)
 executed-ranged k g r Nop f h = h
 
 saved-pin : (r : Registers) (m : ModifyRead) → saved r m .«pin_low» ≡ r .«pin_low»
@@ -84,33 +84,33 @@ restored-pin r Off = refl
 restored-pin r (On c) = refl
 
 -- no instruction moves the pin
-pub executed-pin : (r : Registers) (i : Instruction) → executed r i .«pin_low» ≡ r .«pin_low»
-executed-pin r (ColumnLow v) = refl
-executed-pin r (ColumnHigh v) = refl
-executed-pin r (Resistor v) = refl
-executed-pin r (Power v) = refl
-executed-pin r (StartLine v) = refl
-executed-pin r ContrastNext = refl
-executed-pin r (ContrastValue v) = refl
-executed-pin r (Adc x) = refl
-executed-pin r (Bias x) = refl
-executed-pin r (Entire x) = refl
-executed-pin r (Reverse x) = refl
-executed-pin r IndicatorOff = refl
-executed-pin r IndicatorOn = refl
-executed-pin r (IndicatorValue v) = refl
-executed-pin r (Display x) = refl
-executed-pin r (Page v) = refl
-executed-pin r (Shl x) = refl
-executed-pin r ModifyReadOn = saved-pin r (r .«modify_read»)
-executed-pin r ModifyReadOff = restored-pin r (r .«modify_read»)
-executed-pin r Reset = refl
-executed-pin r Nop = refl
+pub executed-pin : (k : Sheet) (r : Registers) (i : Instruction) → executed k r i .«pin_low» ≡ r .«pin_low»
+executed-pin k r (ColumnLow v) = refl
+executed-pin k r (ColumnHigh v) = refl
+executed-pin k r (Resistor v) = refl
+executed-pin k r (Power v) = refl
+executed-pin k r (StartLine v) = refl
+executed-pin k r ContrastNext = refl
+executed-pin k r (ContrastValue v) = refl
+executed-pin k r (Adc x) = refl
+executed-pin k r (Bias x) = refl
+executed-pin k r (Entire x) = refl
+executed-pin k r (Reverse x) = refl
+executed-pin k r IndicatorOff = refl
+executed-pin k r IndicatorOn = refl
+executed-pin k r (IndicatorValue v) = refl
+executed-pin k r (Display x) = refl
+executed-pin k r (Page v) = refl
+executed-pin k r (Shl x) = refl
+executed-pin k r ModifyReadOn = saved-pin r (r .«modify_read»)
+executed-pin k r ModifyReadOff = restored-pin r (r .«modify_read»)
+executed-pin k r Reset = refl
+executed-pin k r Nop = refl
 
 -- ---- a whole cycle
 
 instructed-ranged : (k : Sheet) → Sensible k → (r : Registers) (n : ℕ) (x : Option Instruction) → Proper k n x → Ranged k r
-    → Ranged k (afterBy r (instructedBy r n x .registers))
+    → Ranged k (afterBy r (instructedBy k r n x .registers))
 instructed-ranged k g r n (some i) f h = executed-ranged k g r i (f .1) h
 instructed-ranged k g r n none f h = h
 

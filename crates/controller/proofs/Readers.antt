@@ -56,7 +56,7 @@ module _ (k : Sheet) (r : Registers) (m : List ℕ) (value : ℕ) where
   abbrev Silent : Outcome → Type 0
   Silent o = (o .number ≡ 0) ⊎ (o .registers ≡ none)
 
-  silent-by : (n : ℕ) (x : Option Instruction) → Silent (instructedBy r n x)
+  silent-by : (n : ℕ) (x : Option Instruction) → Silent (instructedBy k r n x)
   silent-by n (some i) = inl refl
   silent-by n none = inr refl
 
@@ -247,7 +247,7 @@ module _ (k : Sheet) (g : Sensible k) where
       let d3 = obeys k g s2 h2 (ColumnLow (c % 16)) (0x00 + c % 16) refl (field-given 0x00 16 (c % 16) (omega arith)) in
       let f : step k s2 (lowCycle (c % 16)) ≡ state (placed r p c (r .holder)) (s .memory) =
       d3 .1
-      ∙ ap (λ t. state (executed (t .registers) (ColumnLow (c % 16))) (t .memory)) (d2 .1 ∙ ap (λ t. state (executed (t .registers) (ColumnHigh (c / 16))) (t .memory)) (d1 .1))
+      ∙ ap (λ t. state (executed k (t .registers) (ColumnLow (c % 16))) (t .memory)) (d2 .1 ∙ ap (λ t. state (executed k (t .registers) (ColumnHigh (c / 16))) (t .memory)) (d1 .1))
       ∙ ap (λ (x : ℕ). state (placed r p x (r .holder)) (s .memory)) (omega (arith, g .wide, g .byte)) in
       ap (λ t. bytesRead k t (suc n)) f
       ∙ reads-back n (state (placed r p c (r .holder)) (s .memory)) (subst (Restartable k) f (d3 .2)) e hn

@@ -1,9 +1,8 @@
--- What the data sheet's sentences say of the model, each by name: the bits of the status byte, what pin high, AD and E2 leave, what
--- a data write leaves on each page, and which kinds and values make no cycle. Registers are told one by one, so that a definition
--- that forgets one is refused here.
+-- What the data sheet's sentences say of the model, each by name: the bits of the status byte, what the pin and AD leave, what a
+-- data write leaves on each page, and which kinds and values make no cycle.
 -- Assumes nothing.
 use Prim.Native.Nat.{ℕ, _+_, _*_, _/_, _%_, _≤_, _<_}
-use mathlib.Core.Path.{_≡_, _∙_, refl, ap, sym, subst}
+use mathlib.Core.Path.{_≡_, _∙_, refl, ap, subst}
 use mathlib.Core.Logic.{_≢_, _⊎_, inl, inr}
 use mathlib.Core.Bool.{Bool, true, false, cond, _&&_}
 use native.Mathlib.Omega.{arith}
@@ -17,7 +16,7 @@ use Rattle.paper.proofs.Either.{either, or-true}
 use Rattle.paper.proofs.Exactly.{Exactly}
 use Rattle.instructions.specs.Read.{readOf}
 use Rattle.instructions.specs.declared.instruction.Awaited.the-variants as awaited
-use Rattle.instructions.specs.declared.instruction.Instruction.the-variants.{IndicatorOn, IndicatorValue, Reset}
+use Rattle.instructions.specs.declared.instruction.Instruction.the-variants.{IndicatorOn, IndicatorValue}
 use Rattle.registers.specs.Registers.{outside, withIndicator, withIndicatorValue, withAwaited, withPinLow, start}
 use Rattle.registers.specs.declared.Registers.{Registers}
 use Rattle.controller.specs.Execute.{executed}
@@ -86,59 +85,7 @@ module _ (k : Sheet) (g : Sensible k) (s : State) (h : Ready k s) where
       let t = step k s (0, 0xad) in
       let q : readOf k (t .registers .awaited) v ≡ given (IndicatorValue (v % 4)) = rw (ap (λ x. x .registers .awaited) (d .1)) refl in
       let e = acts k g t (IndicatorValue (v % 4)) v (d .2) q in
-      (e .0, e .1 ∙ ap (λ x. state (executed (x .registers) (IndicatorValue (v % 4))) (x .memory)) (d .1))
-
--- ---- E2, register by register: start line, column, page and SHL to 0, nothing else
-
-pub record FourReset (r n : Registers) : Type 0 where
-  pub page : n .page ≡ 0
-  pub column : n .column .0 ≡ 0
-  pub start-line : n .«start_line» ≡ 0
-  pub shl : n .shl ≡ false
-  pub contrast : n .contrast ≡ r .contrast
-  pub resistor : n .resistor ≡ r .resistor
-  pub power : n .power ≡ r .power
-  pub bias : n .bias ≡ r .bias
-  pub adc : n .adc ≡ r .adc
-  pub reverse : n .reverse ≡ r .reverse
-  pub entire : n .entire ≡ r .entire
-  pub on : n .on ≡ r .on
-  pub indicator : n .indicator ≡ r .indicator
-  pub indicator-value : n .«indicator_value» ≡ r .«indicator_value»
-  pub holder : n .holder ≡ r .holder
-  pub pin-low : n .«pin_low» ≡ r .«pin_low»
-  pub modify-read : n .«modify_read» ≡ r .«modify_read»
-  pub awaited : n .awaited ≡ r .awaited
-
--- by the definition
-four-reset : (r : Registers) → FourReset r (executed r Reset)
-four-reset r = record {
-  page = refl;
-  column = refl;
-  start-line = refl;
-  shl = refl;
-  contrast = refl;
-  resistor = refl;
-  power = refl;
-  bias = refl;
-  adc = refl;
-  reverse = refl;
-  entire = refl;
-  on = refl;
-  indicator = refl;
-  indicator-value = refl;
-  holder = refl;
-  pin-low = refl;
-  modify-read = refl;
-  awaited = refl;
-}
-
--- from a ready state E2 is accepted, leaves the registers so, and the memory as it was
-pub reset-by-name : (k : Sheet) → Sensible k → (s : State) → Ready k s
-    → (number k s (0, 0xe2) ≡ 0) × FourReset (s .registers) (step k s (0, 0xe2) .registers) × (step k s (0, 0xe2) .memory ≡ s .memory)
-reset-by-name k g s h =
-    let e = obeys k g s h Reset 0xe2 refl refl in
-    (e .0, subst (λ t. FourReset (s .registers) (t .registers)) (sym (e .1)) (four-reset (s .registers)), ap (λ t. t .memory) (e .1))
+      (e .0, e .1 ∙ ap (λ x. state (executed k (x .registers) (IndicatorValue (v % 4))) (x .memory)) (d .1))
 
 -- ---- a data write below the width
 

@@ -61,18 +61,18 @@ in-order false false false false o = refl
 
 module _ (k : Sheet) (r : Registers) (value : ℕ) (h : value < 256) where
   read-number : (x : Option Instruction) → readOf k awaited.Nothing value .value ≡ x
-      → instructedBy r (readOf k awaited.Nothing value .number) x .number ≡ cond (not (assigned value)) unassigned 0
+      → instructedBy k r (readOf k awaited.Nothing value .number) x .number ≡ cond (not (assigned value)) unassigned 0
   read-number none e = let f = read-none k value h e in f .1 ∙ rw (f .0) refl
   read-number (some i) e = rw (read-some k value h i e) refl
 
-  instructed-number : (a : Awaited) → instructed r (readOf k a value) .number ≡ cond (nothingAwaited a && not (assigned value)) unassigned 0
+  instructed-number : (a : Awaited) → instructed k r (readOf k a value) .number ≡ cond (nothingAwaited a && not (assigned value)) unassigned 0
   instructed-number awaited.Nothing = read-number (readOf k awaited.Nothing value .value) refl
   instructed-number awaited.Contrast = refl
   instructed-number awaited.Indicator = refl
 
   -- only an instruction is refused so late
   carried-number : (t : Bool) (o : Outcome) → o .number ≡ 0
-      → cond t (instructed r (readOf k (r .awaited) value)) o .number ≡ cond (t && (nothingAwaited (r .awaited) && not (assigned value))) unassigned 0
+      → cond t (instructed k r (readOf k (r .awaited) value)) o .number ≡ cond (t && (nothingAwaited (r .awaited) && not (assigned value))) unassigned 0
   carried-number true o e = instructed-number (r .awaited)
   carried-number false o e = e
 

@@ -63,17 +63,17 @@ unfoldable pub status : Registers → ℕ
 status r = cond (r .adc) 0 64 + cond (r .on) 0 32 + cond (r .«pin_low») 16 0
 
 -- an instruction byte that was read as this
-abbrev pub instructedBy : Registers → ℕ → Option Instruction → Outcome
-instructedBy r n (some i) = done (executed r i)
-instructedBy r n none = refusedWith n
+abbrev pub instructedBy : Sheet → Registers → ℕ → Option Instruction → Outcome
+instructedBy k r n (some i) = done (executed k r i)
+instructedBy k r n none = refusedWith n
 
-abbrev pub instructed : Registers → Told Instruction → Outcome
-instructed r t = instructedBy r (t .number) (t .value)
+abbrev pub instructed : Sheet → Registers → Told Instruction → Outcome
+instructed k r t = instructedBy k r (t .number) (t .value)
 
 -- kinds 0 instruction, 1 data write, 2 status read, 3 data read, 4 reset pin low, 5 reset pin high
 unfoldable pub carried : Sheet → Registers → List ℕ → ℕ → ℕ → Outcome
 carried k r m kind value =
-    cond (eqb kind 0) (instructed r (readOf k (r .awaited) value))
+    cond (eqb kind 0) (instructed k r (readOf k (r .awaited) value))
     (cond (eqb kind 1) (done (written (k .width) r value))
     (cond (eqb kind 2) (statusRead (status r))
     (cond (eqb kind 3) (dataRead (r .holder) (afterRead (k .width) r (r .«modify_read») (loaded (k .width) m (r .page) (r .column .0))))

@@ -2,10 +2,11 @@
 -- Assumes nothing.
 use Prim.Native.Nat.{ℕ, _+_, _*_, _/_, _%_}
 use mathlib.Core.Bool.{true, false}
+use Rattle.paper.specs.declared.sheet.Sheet.{Sheet}
 use Rattle.instructions.specs.declared.instruction.Awaited.the-variants as awaited
 use Rattle.instructions.specs.declared.instruction.Instruction.{Instruction}
 use Rattle.instructions.specs.declared.instruction.Instruction.the-variants.{ColumnLow, ColumnHigh, Resistor, Power, StartLine, ContrastNext, ContrastValue, Adc, Bias, Entire, Reverse, IndicatorOff, IndicatorOn, IndicatorValue, Display, Page, Shl, ModifyReadOn, ModifyReadOff, Reset, Nop}
-use Rattle.registers.specs.Registers.{column, withPage, withColumn, withStartLine, withContrast, withResistor, withPower, withBias, withAdc, withShl, withReverse, withEntire, withOn, withIndicator, withIndicatorValue, withModifyRead, withAwaited}
+use Rattle.registers.specs.Registers.{column, withPage, withColumn, withStartLine, withContrast, withResistor, withPower, withBias, withAdc, withShl, withReverse, withEntire, withOn, withIndicator, withIndicatorValue, withModifyRead, withAwaited, start}
 use Rattle.registers.specs.declared.ModifyRead.{ModifyRead}
 use Rattle.registers.specs.declared.ModifyRead.the-variants.{Off, On}
 use Rattle.registers.specs.declared.Registers.{Registers}
@@ -27,29 +28,34 @@ abbrev pub restored : Registers → ModifyRead → Registers
 restored r Off = r
 restored r (On c) = withModifyRead (withColumn r c) Off
 
--- reset: start line, column, page and SHL to 0, nothing else
-abbrev pub reset : Registers → Registers
-reset r = withShl (withPage (withColumn (withStartLine r 0) (column 0)) 0) false
+-- reset: start line, column, page and SHL to 0; the saved column forgotten; the indicator off and its value 0; resistor and contrast
+-- to their start values; nothing else
+abbrev pub reset : Sheet → Registers → Registers
+reset k r =
+    let zeroed = withShl (withPage (withColumn (withStartLine r 0) (column 0)) 0) false in
+    let forgotten = withModifyRead zeroed Off in
+    let unlit = withIndicatorValue (withIndicator forgotten false) 0 in
+    withContrast (withResistor unlit (start k 0 false .resistor)) (start k 0 false .contrast)
 
-abbrev pub executed : Registers → Instruction → Registers
-executed r (ColumnLow v) = lowSet r v
-executed r (ColumnHigh v) = highSet r v
-executed r (Resistor v) = withResistor r v
-executed r (Power v) = withPower r v
-executed r (StartLine v) = withStartLine r v
-executed r ContrastNext = withAwaited r awaited.Contrast
-executed r (ContrastValue v) = withAwaited (withContrast r v) awaited.Nothing
-executed r (Adc f) = withAdc r f
-executed r (Bias f) = withBias r f
-executed r (Entire f) = withEntire r f
-executed r (Reverse f) = withReverse r f
-executed r IndicatorOff = withIndicator r false
-executed r IndicatorOn = withAwaited (withIndicator r true) awaited.Indicator
-executed r (IndicatorValue v) = withAwaited (withIndicatorValue r v) awaited.Nothing
-executed r (Display f) = withOn r f
-executed r (Page v) = withPage r v
-executed r (Shl f) = withShl r f
-executed r ModifyReadOn = saved r (r .«modify_read»)
-executed r ModifyReadOff = restored r (r .«modify_read»)
-executed r Reset = reset r
-executed r Nop = r
+abbrev pub executed : Sheet → Registers → Instruction → Registers
+executed k r (ColumnLow v) = lowSet r v
+executed k r (ColumnHigh v) = highSet r v
+executed k r (Resistor v) = withResistor r v
+executed k r (Power v) = withPower r v
+executed k r (StartLine v) = withStartLine r v
+executed k r ContrastNext = withAwaited r awaited.Contrast
+executed k r (ContrastValue v) = withAwaited (withContrast r v) awaited.Nothing
+executed k r (Adc f) = withAdc r f
+executed k r (Bias f) = withBias r f
+executed k r (Entire f) = withEntire r f
+executed k r (Reverse f) = withReverse r f
+executed k r IndicatorOff = withIndicator r false
+executed k r IndicatorOn = withAwaited (withIndicator r true) awaited.Indicator
+executed k r (IndicatorValue v) = withAwaited (withIndicatorValue r v) awaited.Nothing
+executed k r (Display f) = withOn r f
+executed k r (Page v) = withPage r v
+executed k r (Shl f) = withShl r f
+executed k r ModifyReadOn = saved r (r .«modify_read»)
+executed k r ModifyReadOff = restored r (r .«modify_read»)
+executed k r Reset = reset k r
+executed k r Nop = r

@@ -71,11 +71,11 @@ fn after_read(width: usize, registers: Registers, mode: ModifyRead, byte: u8) ->
 }
 
 fn instruct(chip: Sheet, registers: Registers, byte: u8) -> Answer
-    ensures { λ a. ⌜ outcome a ≡ instructed registers (readOf chip (registers .awaited) byte) ⌝ }
+    ensures { λ a. ⌜ outcome a ≡ instructed chip registers (readOf chip (registers .awaited) byte) ⌝ }
 {
     let awaited = registers.awaited;
     match read_for(chip, awaited, byte) {
-        Reading::ReadAs(instruction) => Answer::Done(execute(registers, instruction)),
+        Reading::ReadAs(instruction) => Answer::Done(execute(chip, registers, instruction)),
         Reading::Unread(number) => Answer::Refused(number),
     }
 }

@@ -3,6 +3,7 @@ ghost use mathlib.Core.Path.{_≡_};
 ghost use Rattle.controller.specs.Execute.{saved, restored, reset, lowSet, highSet, executed};
 use instructions::instruction::Awaited;
 use instructions::instruction::Instruction;
+use paper::sheet::Sheet;
 use registers::Column;
 use registers::ModifyRead;
 use registers::Registers;
@@ -22,6 +23,7 @@ use registers::setters::with_resistor;
 use registers::setters::with_reverse;
 use registers::setters::with_shl;
 use registers::setters::with_start_line;
+use registers::start::started;
 
 // E0: the column is saved, unless one is.
 fn save(registers: Registers, mode: ModifyRead) -> Registers
@@ -48,16 +50,23 @@ fn restore(registers: Registers, mode: ModifyRead) -> Registers
     }
 }
 
-// E2: start line, column, page and SHL to 0, nothing else.
-fn reset_four(registers: Registers) -> Registers
-    ensures { λ n. ⌜ n ≡ reset registers ⌝ }
+// E2: start line, column, page and SHL to 0, the saved column forgotten, the indicator off and its value 0, resistor and contrast to
+// their start values, nothing else.
+fn reset(chip: Sheet, registers: Registers) -> Registers
+    ensures { λ n. ⌜ n ≡ reset chip registers ⌝ }
 {
+    let first = started(chip, 0, false);
     let column = Column(0);
     Registers {
         start_line: 0,
         column,
         page: 0,
         shl: false,
+        modify_read: ModifyRead::Off,
+        indicator: false,
+        indicator_value: 0,
+        resistor: first.resistor,
+        contrast: first.contrast,
         ..registers
     }
 }
@@ -75,8 +84,8 @@ fn column_high(registers: Registers, high: u8) -> Registers
     with_column(registers, Column(high % 16 * 16 + registers.column.0 % 16))
 }
 
-pub(crate) fn execute(registers: Registers, instruction: Instruction) -> Registers
-    ensures { λ n. ⌜ n ≡ executed registers instruction ⌝ }
+pub(crate) fn execute(chip: Sheet, registers: Registers, instruction: Instruction) -> Registers
+    ensures { λ n. ⌜ n ≡ executed chip registers instruction ⌝ }
 {
     let mode = registers.modify_read;
     match instruction {
@@ -105,7 +114,7 @@ pub(crate) fn execute(registers: Registers, instruction: Instruction) -> Registe
         Instruction::Shl(f) => with_shl(registers, f),
         Instruction::ModifyReadOn => save(registers, mode),
         Instruction::ModifyReadOff => restore(registers, mode),
-        Instruction::Reset => reset_four(registers),
+        Instruction::Reset => reset(chip, registers),
         Instruction::Nop => registers,
     }
 }

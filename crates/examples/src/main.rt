@@ -58,6 +58,7 @@ fn good() {
     example(b"worked.job");
     example(b"dummy-read.job");
     example(b"modify-read.job");
+    example(b"reset.job");
     example(b"restart.job");
     example(b"settings.job");
     example(b"redraw-dark.job");

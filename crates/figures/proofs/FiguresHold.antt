@@ -1,4 +1,4 @@
--- Document 01's figures marked P hold: each is computed from the definitions that the promises cite. A stream of no bytes is shown
+-- Document 01's figures marked P, order 5's and the KS0717's hold: each is computed from the definitions that the promises cite. A stream of no bytes is shown
 -- by its length, which is quicker to compute.
 -- Assumes nothing.
 use Prim.Native.Nat.{ℕ}
@@ -44,6 +44,7 @@ unfolding classOf roomIn readBy readFirst outside cellOf isCell stored advanced 
 figures0717 = record {
   resistor-up = refl;
   resistor-low = refl;
+  resistor-reset = refl;
   last-column-memory = refl;
   last-column = refl;
   seven-bits = refl;
@@ -65,7 +66,12 @@ figures = record {
   last-column-memory = refl;
   last-column = refl;
   modify-read = refl;
+  reset-column = refl;
   contrast = refl;
+  reset-resistor = refl;
+  reset-contrast = refl;
+  reset-indicator = refl;
+  reset-value = refl;
   row-5 = refl;
   row-0 = refl;
   equal = no-update zeros zeros equal-0;

@@ -1,5 +1,5 @@
--- Document 01's figures marked P, in its words and order, and the KS0717's: one table, one claim. `proofs/FiguresHold.antt` proves it by
--- computing.
+-- Document 01's figures marked P, in its words and order, with order 5's figures of E2, and the KS0717's: one table, one claim.
+-- `proofs/FiguresHold.antt` proves it by computing.
 -- Assumes nothing.
 use Prim.Native.Nat.{ℕ, _+_, _*_}
 use mathlib.Core.Path.{_≡_}
@@ -35,6 +35,11 @@ instruction b = (0, b)
 abbrev pub byte : ℕ → BusCycle
 byte b = (1, b)
 
+-- resistor 5, contrast 63, indicator on with value 3, and E2
+abbrev pub set-then-reset : List BusCycle
+set-then-reset =
+    instruction 0x25 ∷ instruction 0x81 ∷ instruction 0x3f ∷ instruction 0xad ∷ instruction 0x03 ∷ instruction 0xe2 ∷ []
+
 -- what a status read answers
 abbrev pub statusOf : State → Option ℕ
 statusOf s = answer sheet0713 (s .registers) (s .memory) 2 0 .byte
@@ -59,6 +64,8 @@ pub record Figures0717 : Type 0 where
   -- at power-up the resistor is 4, and after pin low
   pub resistor-up : after0717 [] .registers .resistor ≡ 4
   pub resistor-low : after0717 (instruction 0x27 ∷ (4, 0) ∷ []) .registers .resistor ≡ 4
+  -- 27, E2: resistor 4 (order 5)
+  pub resistor-reset : after0717 (instruction 0x27 ∷ instruction 0xe2 ∷ []) .registers .resistor ≡ 4
   -- column 99, two writes: the first is stored, the second not; column 100
   pub last-column-memory : after0717 (instruction 0x16 ∷ instruction 0x03 ∷ byte 5 ∷ byte 7 ∷ []) .memory ≡ set zeros0717 99 5
   pub last-column : after0717 (instruction 0x16 ∷ instruction 0x03 ∷ byte 5 ∷ byte 7 ∷ []) .registers .column .0 ≡ 100
@@ -85,8 +92,15 @@ pub record Figures : Type 0 where
   pub last-column : after (instruction 0x18 ∷ instruction 0x03 ∷ byte 5 ∷ byte 7 ∷ []) .registers .column .0 ≡ 132
   -- E0 at column 7, one write, EE: column 7
   pub modify-read : after (instruction 0x07 ∷ instruction 0xe0 ∷ byte 1 ∷ instruction 0xee ∷ []) .registers .column .0 ≡ 7
+  -- E0 at column 7, one write, E2, EE: column 0, since E2 forgets the saved column (order 5)
+  pub reset-column : after (instruction 0x07 ∷ instruction 0xe0 ∷ byte 1 ∷ instruction 0xe2 ∷ instruction 0xee ∷ []) .registers .column .0 ≡ 0
   -- 81 then FF: contrast 63
   pub contrast : after (instruction 0x81 ∷ instruction 0xff ∷ []) .registers .contrast ≡ 63
+  -- 25, 81 3F, AD 03, E2: resistor 0, contrast 32, indicator off, value 0 (order 5)
+  pub reset-resistor : after set-then-reset .registers .resistor ≡ 0
+  pub reset-contrast : after set-then-reset .registers .contrast ≡ 32
+  pub reset-indicator : after set-then-reset .registers .indicator ≡ false
+  pub reset-value : after set-then-reset .registers .«indicator_value» ≡ 0
   -- start 60, SHL 0, row 5: line 1. SHL 1, row 0: line 59
   pub row-5 : lineOf (sheet0713 .rows) 60 false 5 ≡ 1
   pub row-0 : lineOf (sheet0713 .rows) 60 true 0 ≡ 59

@@ -1,4 +1,4 @@
--- What a written field says: the value is inside it exactly if a byte is given.
+-- What a written field and a written flag say: a value is inside its field exactly if a byte is given, and a flag always is.
 -- Assumes nothing.
 use Prim.Native.Nat.{ℕ, _+_, _≤_, _<_}
 use mathlib.Core.Path.{_≡_, refl, ap}
@@ -9,7 +9,7 @@ use borrow.Author.Tests.{lt-ltb, le-ltb, ltb-true}
 use Rattle.paper.specs.Refusal.{outsideField}
 use Rattle.paper.specs.Told.{given, refused}
 use Rattle.paper.proofs.Telling.{given-one}
-use Rattle.instructions.specs.Write.{fieldOf}
+use Rattle.instructions.specs.Write.{fieldOf, flagOf}
 
 -- a value inside its field is written as the base and the value
 pub field-given : (base count v : ℕ) → v < count → fieldOf base count v ≡ given (base + v)
@@ -20,6 +20,12 @@ field-given base count v h = simp (lt-ltb v count h)
 pub field-refused : (base count v : ℕ) → count ≤ v → fieldOf base count v ≡ refused outsideField
 unfolding fieldOf
 field-refused base count v h = simp (le-ltb v count h)
+
+-- a flag is written as the one byte or the other
+pub flag-given : (off on : ℕ) (f : Bool) → flagOf off on f ≡ given (cond f on off)
+unfolding flagOf
+flag-given off on true = refl
+flag-given off on false = refl
 
 inside : (t : Bool) (x : ℕ) → cond t (given x) (refused outsideField) .number ≡ 0 → t ≡ true
 inside true x e = refl

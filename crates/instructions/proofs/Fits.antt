@@ -17,7 +17,7 @@ use Rattle.instructions.specs.Read.{classOf, roomIn, readBy, readFirst, 
 use Rattle.instructions.specs.declared.instruction.Awaited.{Awaited}
 use Rattle.instructions.specs.declared.instruction.Awaited.the-variants as awaited
 use Rattle.instructions.specs.declared.instruction.Instruction.{Instruction}
-use Rattle.instructions.proofs.Fields.{field-given}
+use Rattle.instructions.proofs.Fields.{field-given, flag-given}
 
 -- an instruction is inside its fields: its byte is not refused
 abbrev pub Fits : Sheet → Instruction → Type 0
@@ -32,9 +32,7 @@ field-fits : (base count v : ℕ) → v < count → fieldOf base count v .number
 field-fits base count v h = ap (λ t. t .number) (field-given base count v h)
 
 flag-fits : (off on : ℕ) (f : Bool) → flagOf off on f .number ≡ 0
-unfolding flagOf
-flag-fits off on true = refl
-flag-fits off on false = refl
+flag-fits off on f = ap (λ t. t .number) (flag-given off on f)
 
 room-by : (highs h : ℕ) (t : Bool) → ltb h highs ≡ t → h < 16 → 8 ≤ highs → cond t h (h - highs) < highs
 room-by highs h true e l m = ltb-true h highs e

@@ -12,7 +12,7 @@ use crate::words::put;
 use crate::words::write_words;
 use instructions::class::class_of;
 
-// A row's line: its first byte, its last byte, its class, and document 01's words. Only a whole row is written, with its own class.
+// A row's line: its first byte, its last byte, its class, and its words. Only a whole row is written, with its own class.
 fn write_row(first: u8, last: u8, class: u8) -> bool
     requires { ⌜ IsRow first last × IsClass first class ⌝ }
 {

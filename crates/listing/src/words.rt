@@ -1,4 +1,4 @@
-// Document 01's words for each row of the table.
+// Document 01's words for each row of the table, E2's with order 5's.
 
 pub(crate) fn put(text: &[u8]) -> bool {
     io::write_all(libc::STDOUT_FILENO, text)
@@ -24,7 +24,9 @@ pub(crate) fn write_words(class: u8) -> bool {
         15 => put(b"SHL is bit 3; bits 0-2 free"),
         16 => put(b"modify-read on, saving the column"),
         17 => put(b"modify-read off, restoring the column"),
-        18 => put(b"reset: start line, column, page and SHL to 0, nothing else"),
+        18 => put(
+            b"reset: start line, column, page and SHL to 0; the saved column forgotten; the indicator off and its value 0; resistor and contrast to their start values; nothing else",
+        ),
         19 => put(b"nothing"),
         _ => put(b"unassigned"),
     }

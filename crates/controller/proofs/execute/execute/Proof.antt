@@ -71,5 +71,5 @@ execute-spec =
     (λ c. rw (c .before .before .instruction14 .given .1) (c .with-shl .ensures))
     (λ c. rw (c .before .enum-told4 .given .1) (c .save .ensures))
     (λ c. rw (c .before .enum-told5 .given .1) (c .restore .ensures))
-    (λ c. rw (c .before .enum-told6 .given .1) (c .reset-four .ensures))
+    (λ c. rw (c .before .enum-told6 .given .1) (c .reset .ensures))
     (λ c. rw (c .enum-told7 .given .1)))

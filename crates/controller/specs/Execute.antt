@@ -1,4 +1,4 @@
--- What an instruction does to the registers: document 01's column "Effect", row by row.
+-- What an instruction does to the registers: document 01's column "Effect", row by row, E2's as order 5 has it.
 -- Assumes nothing.
 use Prim.Native.Nat.{ℕ, _+_, _*_, _/_, _%_}
 use mathlib.Core.Bool.{true, false}

@@ -17,7 +17,7 @@ MODEL_CALLS(fast0717)
     static void side##_v0(void) { prefix##_v0(5, 33, &desk.numerator); }
 
 #define CHIP(side, prefix, registers, n) \
-    static void side##_cycle(void) { prefix##_cycle(registers, desk.memory, n, desk.kind, desk.value, &desk.read, &desk.byte); } \
+    static void side##_cycle(void) { prefix##_cycle(registers, desk.memory, n, desk.kind, desk.value, &desk.read, &desk.byte, &desk.mark); } \
     static void side##_frame(void) { prefix##_frame(registers, desk.memory, n, desk.frame, n); } \
     static void side##_power(void) { prefix##_power_state(registers, &desk.power); }
 
@@ -26,15 +26,15 @@ MODEL_CALLS(fast0717)
 /* a list of cycles with each one's answer: the library unpacks its state once, the model's struct is at hand */
 static void ours_list(void)
 {
-    bus_run(desk.state, desk.memory, N, desk.cycles, 2 * desk.laps, desk.numbers, MOST, desk.reads, MOST, desk.bytes, MOST);
+    bus_run(desk.state, desk.memory, N, desk.cycles, 2 * desk.laps, desk.numbers, MOST, desk.reads, MOST, desk.bytes, MOST, desk.fresh, MOST);
 }
 
 #define LIST_OF(side, prefix) \
     static void side##_list(void) \
     { \
         for (size_t i = 0; i < desk.laps; i++) { \
-            desk.reads[i] = desk.bytes[i] = 0; \
-            desk.numbers[i] = prefix##_cycle(&desk.registers, desk.memory, N, desk.cycles[2 * i], desk.cycles[2 * i + 1], &desk.reads[i], &desk.bytes[i]); \
+            desk.reads[i] = desk.bytes[i] = desk.fresh[i] = 0; \
+            desk.numbers[i] = prefix##_cycle(&desk.registers, desk.memory, N, desk.cycles[2 * i], desk.cycles[2 * i + 1], &desk.reads[i], &desk.bytes[i], &desk.fresh[i]); \
         } \
     }
 

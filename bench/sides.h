@@ -16,9 +16,9 @@ struct desk {
     struct model_registers registers;    /* the model's */
     uint8_t kind, value;                 /* one cycle */
     uint8_t cycles[2 * MOST];            /* or a list of them, of which `laps` are played */
-    uint8_t numbers[MOST], reads[MOST], bytes[MOST]; /* and their answers */
+    uint8_t numbers[MOST], reads[MOST], bytes[MOST], fresh[MOST]; /* and their answers */
     size_t laps, room;                   /* and the room in a stream's outputs */
-    uint8_t number, field, byte, read, found, power;
+    uint8_t number, field, byte, read, mark, found, power;
     size_t count, page, column;
     uint32_t numerator;
 };

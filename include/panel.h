@@ -49,7 +49,7 @@ enum {
     PANEL_WRONG_CYCLE = 9        /* kind above 5, or value not 0 in kinds 2 to 5 */
 };
 
-/* The state: where each register stands, and what it may be. Bytes 19 to 31 are spare and 0. A byte outside its range, a saved
+/* The state: where each register stands, and what it may be. Bytes 20 to 31 are spare and 0. A byte outside its range, a saved
  * column that is not 0 while modify-read is 0, and a spare byte that is not 0 are refused with 2. Whatever a call writes into a
  * state is accepted again. */
 enum {
@@ -71,7 +71,8 @@ enum {
     PANEL_AT_PIN_LOW = 15,           /* 0 or 1 */
     PANEL_AT_MODIFY_READ = 16,       /* 0 or 1 */
     PANEL_AT_SAVED_COLUMN = 17,      /* 0 to 255; 0 while modify-read is 0 */
-    PANEL_AT_AWAITED = 18            /* one of PANEL_AWAITS_.. */
+    PANEL_AT_AWAITED = 18,           /* one of PANEL_AWAITS_.. */
+    PANEL_AT_FRESH = 19              /* 0 or 1: a data read now would be fresh */
 };
 
 /* Which second byte is awaited. */
@@ -122,10 +123,16 @@ uint8_t panel_power_up(uint8_t state[PANEL_STATE]);
 
 /* Plays one bus cycle: the state and the memory become what they are after it. Where the cycle is a status read or a data read,
  * *read becomes 1 and *byte the byte that is read; after any other cycle both are as they were, so set *read to 0 before the call.
- * The first data read after an address set answers the old holder. Only a data write changes the memory, at most one byte of it.
+ * Only a data write changes the memory, at most one byte of it.
+ *
+ * A data read answers the holder and then loads it, so the first one after an address set answers what was there before: a dummy.
+ * *fresh tells: after a data read it becomes 1 where the byte is fresh, 0 where it is stale; after any other cycle it is as it was.
+ * Fresh is a byte exactly if the last cycle that was a data read, a data write, a page or column instruction, E0, EE, E2 or reset pin
+ * low was a data read; a refused cycle does not count. It is then the cell that that read stood on, 0 where there is none.
+ *
  * Who plays many cycles at once takes bus_run (bus.h). Refuses with 1 (memory), 2 (state), 9, 3, 4. */
 uint8_t panel_cycle(uint8_t state[PANEL_STATE], uint8_t *memory, size_t memory_length, uint8_t kind, uint8_t value,
-                    uint8_t *read, uint8_t *byte);
+                    uint8_t *read, uint8_t *byte, uint8_t *fresh);
 
 /* Draws the lit frame: a picture's layout, with segments for columns and rows for lines; bit 0 of strip 8 is the icon row.
  * State and memory are only read. Refuses with 1 (memory or frame), 2 (state). */

@@ -38,9 +38,9 @@ enum {
 /* Writes the state at power-up, as panel_power_up does. Always 0. */
 uint8_t panel0717_power_up(uint8_t state[PANEL_STATE]);
 
-/* Plays one bus cycle, as panel_cycle does. Refuses with 1 (memory), 2 (state), 9, 3, 4. */
+/* Plays one bus cycle, as panel_cycle does, with *fresh after a data read. Refuses with 1 (memory), 2 (state), 9, 3, 4. */
 uint8_t panel0717_cycle(uint8_t state[PANEL_STATE], uint8_t *memory, size_t memory_length, uint8_t kind, uint8_t value,
-                        uint8_t *read, uint8_t *byte);
+                        uint8_t *read, uint8_t *byte, uint8_t *fresh);
 
 /* Draws the lit frame, as panel_frame does. Refuses with 1 (memory or frame), 2 (state). */
 uint8_t panel0717_frame(const uint8_t state[PANEL_STATE], const uint8_t *memory, size_t memory_length,

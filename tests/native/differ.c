@@ -58,7 +58,7 @@ static void good_state(uint8_t s[PANEL_STATE])
     for (int i = 6; i < 13; i++) s[i] = below(2);
     s[13] = below(4), s[14] = rnd();
     s[15] = below(8) == 0;
-    s[16] = below(2), s[17] = s[16] ? below(COUNTER) : 0, s[18] = below(3);
+    s[16] = below(2), s[17] = s[16] ? below(COUNTER) : 0, s[18] = below(3), s[19] = below(2);
 }
 static void any_state(uint8_t s[PANEL_STATE])
 {
@@ -67,7 +67,7 @@ static void any_state(uint8_t s[PANEL_STATE])
     case 0: s[below(PANEL_STATE)] = rnd(); break;
     case 1: s[3] = 62 + below(4); break;
     case 2: s[16] = 0, s[17] = below(4); break;
-    case 3: s[6 + below(13)] = below(4); break;
+    case 3: s[6 + below(14)] = below(4); break;
     case 4: s[below(2) ? 1 : 17] = 126 + below(4); break;
     default: break;
     }
@@ -76,7 +76,7 @@ static void to_model(struct model_registers *r, const uint8_t s[PANEL_STATE]) { 
 /* a spare byte is no register of the model's: it is out of range by the header's own words */
 static int spare(const uint8_t s[PANEL_STATE])
 {
-    for (int i = 19; i < PANEL_STATE; i++) if (s[i]) return 1;
+    for (int i = 20; i < PANEL_STATE; i++) if (s[i]) return 1;
     return 0;
 }
 
@@ -186,17 +186,17 @@ static void some_cycle(uint8_t *kind, uint8_t *value)
 #ifndef KS0717
 /* the model of a list: each cycle by itself, its answer at its entry; the list is refused as a whole first */
 static uint8_t model_list(struct model_registers *r, int used, uint8_t *m, size_t length, const uint8_t *list, size_t n,
-                          uint8_t *out[3], const size_t room[3])
+                          uint8_t *out[4], const size_t room[4])
 {
-    uint8_t flag = 0, byte = 0;
+    uint8_t flag = 0, byte = 0, fresh = 0;
     struct model_registers asked = *r;
     if (length != N) return 1;
-    if (used || MODEL(cycle)(&asked, m, length, 2, 0, &flag, &byte) == 2) return 2; /* a status read meets 1 and 2, and changes nothing */
-    for (int i = 0; i < 3; i++) if (room[i] < n) return 5;
+    if (used || MODEL(cycle)(&asked, m, length, 2, 0, &flag, &byte, &fresh) == 2) return 2; /* a status read meets 1 and 2, and changes nothing */
+    for (int i = 0; i < 4; i++) if (room[i] < n) return 5;
     for (size_t i = 0; i < n; i++) {
-        flag = byte = 0;
-        out[0][i] = MODEL(cycle)(r, m, length, list[2 * i], list[2 * i + 1], &flag, &byte);
-        out[1][i] = flag, out[2][i] = byte;
+        flag = byte = fresh = 0;
+        out[0][i] = MODEL(cycle)(r, m, length, list[2 * i], list[2 * i + 1], &flag, &byte, &fresh);
+        out[1][i] = flag, out[2][i] = byte, out[3][i] = fresh;
     }
     return 0;
 }
@@ -205,22 +205,22 @@ static uint8_t model_list(struct model_registers *r, int used, uint8_t *m, size_
 static void lists(void)
 {
     enum { MOST = 60, WIDE = MOST + 4 };
-    static uint8_t m1[ROOM], m2[ROOM], list[2 * MOST + 1], ours[3][WIDE], theirs[3][WIDE];
-    uint8_t s[PANEL_STATE], *out[3] = { theirs[0], theirs[1], theirs[2] };
+    static uint8_t m1[ROOM], m2[ROOM], list[2 * MOST + 1], ours[4][WIDE], theirs[4][WIDE];
+    uint8_t s[PANEL_STATE], *out[4] = { theirs[0], theirs[1], theirs[2], theirs[3] };
     struct model_registers r;
-    size_t n = below(MOST + 1), odd = below(2), length = some_length(), room[3];
+    size_t n = below(MOST + 1), odd = below(2), length = some_length(), room[4];
     if (below(4)) good_state(s); else any_state(s);
     to_model(&r, s);
     for (int i = 0; i < ROOM; i++) m1[i] = m2[i] = rnd();
     for (size_t i = 0; i < n; i++) some_cycle(&list[2 * i], &list[2 * i + 1]);
     list[2 * n] = rnd();
-    for (int i = 0; i < 3; i++) {
+    for (int i = 0; i < 4; i++) {
         room[i] = below(20) ? n + below(4) : n ? n - 1 : 0;
         for (int k = 0; k < WIDE; k++) ours[i][k] = theirs[i][k] = rnd();
     }
     uint8_t before[PANEL_STATE];
     memcpy(before, s, PANEL_STATE);
-    uint8_t n1 = bus_run(s, m1, length, list, 2 * n + odd, ours[0], room[0], ours[1], room[1], ours[2], room[2]);
+    uint8_t n1 = bus_run(s, m1, length, list, 2 * n + odd, ours[0], room[0], ours[1], room[1], ours[2], room[2], ours[3], room[3]);
     uint8_t n2 = model_list(&r, spare(before), m2, length, list, n, out, room);
     numbers[n2]++;
     int state = n2 ? !memcmp(before, s, PANEL_STATE) : !memcmp(s, &r, sizeof r) && !spare(s);
@@ -247,14 +247,14 @@ static void cycles(long count)
             to_model(&r, s);
         }
         size_t length = below(200) ? N : below(2) ? OTHER : below(ROOM);
-        uint8_t before[PANEL_STATE], g1 = 7, g2 = 7, b1 = 5, b2 = 5;
+        uint8_t before[PANEL_STATE], g1 = 7, g2 = 7, b1 = 5, b2 = 5, f1 = 3, f2 = 3;
         memcpy(before, s, PANEL_STATE);
-        uint8_t n1 = PANEL(cycle)(s, m1, length, kind, value, &g1, &b1), n2;
+        uint8_t n1 = PANEL(cycle)(s, m1, length, kind, value, &g1, &b1, &f1), n2;
         if (spare(before) && length == N) n2 = 2;
-        else n2 = MODEL(cycle)(&r, m2, length, kind, value, &g2, &b2);
+        else n2 = MODEL(cycle)(&r, m2, length, kind, value, &g2, &b2, &f2);
         numbers[n2]++;
         int kept = !n1 || !memcmp(before, s, PANEL_STATE);
-        int equal = n1 == n2 && g1 == g2 && b1 == b2 && kept && (n1 || !spare(s)) && !memcmp(s, &r, sizeof r);
+        int equal = n1 == n2 && g1 == g2 && b1 == b2 && f1 == f2 && kept && (n1 || !spare(s)) && !memcmp(s, &r, sizeof r);
         if (i % 64 == 0 || kind == 1) equal = equal && !memcmp(m1, m2, ROOM);
         if (!same("cycle", equal)) { memcpy(m2, m1, ROOM); good_state(s); to_model(&r, s); }
         if (spare(s)) { good_state(s); to_model(&r, s); }

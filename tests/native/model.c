@@ -1,9 +1,9 @@
-/* The panel model of model.h, written from document 01 and order 5 alone and, for the second chip, from order 1.
+/* The panel model of model.h, written from document 01 and orders 2 and 5 alone and, for the second chip, from order 1.
    Compiled as it is, this file is the model of the KS0713; compiled with -include ks0717.h it is that of the KS0717, under
    the names and with the numbers given there. The chips differ in the numbers of the first block below and in nothing else.
    Sentences in quotes are document 01's own, and after "Order 1:" the order's, which hold for the KS0717 in place of
-   those of 01, and after "Order 5:" that order's, which hold for both chips; "Decision" marks a point settled by
-   combining them.
+   those of 01, and after "Order 2:" and "Order 5:" those orders', which hold for both chips; "Decision" marks a point
+   settled by combining them.
    Words in the form @name are markers for faults.txt (here and in ks0717.h) and mean nothing else.
 
    Nothing here checks for null pointers, and lent buffers are taken not to overlap one another
@@ -50,6 +50,11 @@
 #define AWAITS_NOTHING 0u
 #define AWAITS_CONTRAST 1u
 #define AWAITS_INDICATOR 2u
+
+/* The words of "counts" (order 2): not at all, as a data read, as one of the others. */
+#define COUNTS_NOT 0u
+#define COUNTS_AS_READ 1u
+#define COUNTS_AS_OTHER 2u
 
 /* Instruction numbers of model.h. */
 #define I_COLUMN_LOW 0u
@@ -111,7 +116,10 @@ static int in_counter(unsigned column)
    indicator byte."
    Decision: the holder is a byte, so nothing is outside its range, nor outside the column's on the KS0713. "either no
    saved column or exactly one" is given here by two fields; modify_read 0 with a saved column other than 0 is no such
-   state and so out of range. */
+   state and so out of range.
+   Order 2: "A data read's answer shall tell fresh from stale"; "Refusals: none new."
+   Decision: what it tells is a part of the state, the register fresh of 0 or 1, and so under number 2 as those of 01 are.
+   It stands by itself: a state of pin low and fresh 1 is in range, though no cycles from power-up lead to it. */
 static int in_range(const struct model_registers *r)
 {
     if (r->page > 15u) return 0;
@@ -133,12 +141,14 @@ static int in_range(const struct model_registers *r)
     if (!in_counter(r->saved_column)) return 0; /* @saved_counter */
     if (r->modify_read == 0u && r->saved_column != 0u) return 0; /* @range_saved */
     if (r->awaited > 2u) return 0;
+    if (r->fresh > 1u) return 0; /* @range_fresh */
     return 1;
 }
 
 /* "Pin low: every register takes its start value, the awaited byte and the saved column are forgotten, memory and holder
    are kept (house). Start values are 0 and off, except contrast 32 (house)." On the KS0717 the resistor's is 4 (ks0717.h).
-   Decision: the pin itself is a register, and the cycle leaves it low. */
+   Decision: the pin itself is a register, and the cycle leaves it low. The mark of order 2 is not put here: see
+   counts. */
 static void pin_goes_low(struct model_registers *r)
 {
     r->page = 0;
@@ -167,12 +177,14 @@ static void pin_goes_high(struct model_registers *r)
     r->pin_low = 0;
 }
 
-/* "The power-up state is pin low then high, holder 0, memory as lent." */
+/* "The power-up state is pin low then high, holder 0, memory as lent."
+   Order 2: "Power-up is stale" */
 void model_power_up(struct model_registers *r)
 {
     pin_goes_low(r);
     pin_goes_high(r);
     r->holder = 0;
+    r->fresh = 0; /* @mark_power_up */
 }
 
 /* ---------------------------------------------------------------- instruction bytes */
@@ -420,7 +432,8 @@ static void carry_out(struct model_registers *r, uint8_t number, uint8_t value)
        the indicator off and its value to 0, and puts resistor and contrast to their start values. All else stays."
        Decision: this stands in place of the row's "nothing else". The saved column is forgotten, not restored: modify-read
        is off and the column 0. The start values are the chip's own, those of pin_goes_low. "All else" is power, bias, ADC,
-       reverse, entire display, display on, holder and pin; an E2 that is awaited is the second byte and not this one. */
+       reverse, entire display, display on, holder and pin; an E2 that is awaited is the second byte and not this one. The
+       mark of order 2 is no part of this: see counts. */
     case I_RESET:
         r->start_line = 0;
         r->column = 0; /* @reset_column */
@@ -469,13 +482,54 @@ static uint8_t status(const struct model_registers *r)
     return s;
 }
 
+/* Order 2: "fresh exactly when the last cycle that was a data read, a data write, a page or column instruction, E0, EE, E2
+   or pin low was a data read. Power-up is stale; status reads and refused cycles don't count."
+   The one place that says of a cycle whether it counts and, if so, as what. It is asked of the state before the cycle.
+   Decision: instructions are meant and not bytes, so a byte that is awaited is a second byte, whatever its value, and
+   doesn't count. An instruction of the list counts whether or not it changes anything else: E0 while modify-read is on,
+   EE while it is off, a page or column that is there already; so do data cycles where there is no cell. Pin high and
+   every other instruction don't count. */
+static uint8_t counts(const struct model_registers *r, uint8_t kind, uint8_t value)
+{
+    uint8_t number, field;
+
+    switch (kind) {
+    case 0:
+        /* "refused cycles don't count" */
+        if (model_read_instruction(r->awaited, value, &number, &field) != 0u) /* @mark_awaited */
+            return COUNTS_NOT;
+        switch (number) {
+        /* "a page or column instruction" */
+        case I_PAGE: return COUNTS_AS_OTHER; /* @mark_page */
+        case I_COLUMN_LOW: return COUNTS_AS_OTHER; /* @mark_low */
+        case I_COLUMN_HIGH: return COUNTS_AS_OTHER; /* @mark_high */
+        /* "E0, EE, E2" */
+        case I_MODIFY_ON: return COUNTS_AS_OTHER; /* @mark_e0 */
+        case I_MODIFY_OFF: return COUNTS_AS_OTHER; /* @mark_ee */
+        case I_RESET: return COUNTS_AS_OTHER; /* @mark_e2 */
+        default: return COUNTS_NOT; /* @mark_instruction */
+        }
+    /* "a data write" */
+    case 1: return COUNTS_AS_OTHER; /* @mark_write */
+    /* "status reads [...] don't count" */
+    case 2: return COUNTS_NOT; /* @mark_status */
+    /* "a data read" */
+    case 3: return COUNTS_AS_READ; /* @mark_read */
+    /* "pin low" */
+    case 4: return COUNTS_AS_OTHER; /* @mark_pin_low */
+    /* pin high */
+    default: return COUNTS_NOT; /* 5; @mark_pin_high */
+    }
+}
+
 /* "Kinds: 0 instruction, 1 data write, 2 status read, 3 data read, 4 reset pin low, 5 reset pin high."
    "The order is 1, 2, 6, 3, 4, 5; [...] A single cycle given as kind and value can meet 9 too, after 2." So: 1, 2, 9, 3,
    4.
    "A refusal returns its number only; registers and buffers stay." */
-uint8_t model_cycle(struct model_registers *r, uint8_t *memory, size_t memory_len, uint8_t kind, uint8_t value, uint8_t *read_flag, uint8_t *byte)
+uint8_t model_cycle(struct model_registers *r, uint8_t *memory, size_t memory_len, uint8_t kind, uint8_t value,
+                    uint8_t *read_flag, uint8_t *byte, uint8_t *fresh)
 {
-    uint8_t refusal, number, field;
+    uint8_t refusal, number, field, counted;
 
     /* 1: "a picture, memory or frame buffer is not 1,188 bytes" (whatever the kind). Order 1: "number 1 uses 900 here" */
     if (memory_len != PICTURE)
@@ -485,18 +539,19 @@ uint8_t model_cycle(struct model_registers *r, uint8_t *memory, size_t memory_le
         return 2;
     /* 9: "kind above 5, or value not 0 in kinds 2 to 5" */
     if (kind > 5u || (kind >= 2u && value != 0u)) /* @nine */
-        return 9;
+        return 9; /* @mark_nine */
     /* 3: "pin low, and the cycle is kind 0, 1 or 3". Decision: this comes before the byte is looked at, so an awaited
        second byte is not spent and 4 is not met. */
     if (r->pin_low == 1u && (kind == 0u || kind == 1u || kind == 3u)) /* @three */
-        return 3;
+        return 3; /* @mark_three */
 
+    counted = counts(r, kind, value);
     switch (kind) {
     case 0:
         /* 4: "instruction byte unassigned and nothing awaited" */
         refusal = model_read_instruction(r->awaited, value, &number, &field);
         if (refusal != 0u)
-            return refusal;
+            return refusal; /* @mark_four */
         carry_out(r, number, field);
         break;
     case 1:
@@ -514,14 +569,17 @@ uint8_t model_cycle(struct model_registers *r, uint8_t *memory, size_t memory_le
     case 2:
         /* "Status reads change nothing." */
         *read_flag = 1;
-        *byte = status(r);
+        *byte = status(r); /* @mark_untold */
         break;
     case 3:
         /* "Data read: answers the holder, then loads it from the cell (0 if there is none). Then the column advances
            unless modify-read is on. So the first read after an address set is a dummy (002)."
-           "On page 8 only bit 0 exists: other bits are read as 0 whatever the buffer holds" */
+           "On page 8 only bit 0 exists: other bits are read as 0 whatever the buffer holds"
+           Order 2: "A data read's answer shall tell fresh from stale"; "in 01's example the line of index 6 ends in s, that
+           of index 7 in f". Decision: so it tells the mark from before this read. */
         *read_flag = 1;
         *byte = r->holder;
+        *fresh = r->fresh; /* @mark_told */
         if (cell_exists(r))
             r->holder = existing(r->page, memory[cell(r->page, r->column)]);
         else
@@ -536,6 +594,11 @@ uint8_t model_cycle(struct model_registers *r, uint8_t *memory, size_t memory_le
         pin_goes_high(r);
         break;
     }
+
+    /* Order 2: "fresh exactly when the last cycle that was [...] was a data read". Only accepted cycles come
+       here: "refused cycles don't count". */
+    if (counted != COUNTS_NOT)
+        r->fresh = counted == COUNTS_AS_READ ? 1 : 0;
     return 0;
 }
 

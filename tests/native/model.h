@@ -1,4 +1,5 @@
-/* An independent model of the panel software, written from document 01 and order 5 alone and, for the second chip, from order 1.
+/* An independent model of the panel software, written from document 01 and orders 2 and 5 alone and, for the second chip,
+   from order 1.
    Plain C, no library calls.
    Two chips, one source: the calls model_... are the KS0713's (model.c as it is), the calls model0717_... the KS0717's
    (model.c compiled with -include ks0717.h). Registers, numbers of instructions and answers have the same form on both.
@@ -16,6 +17,7 @@ struct model_registers {
     uint8_t modify_read;  /* 0 off, 1 on */
     uint8_t saved_column; /* meaningful while modify_read is 1, else 0 */
     uint8_t awaited;      /* 0 nothing, 1 contrast byte, 2 indicator byte */
+    uint8_t fresh;        /* 1 while the next data read would be fresh, 0 or 1 */
 };
 
 /* Instructions by number, in the order of document 01's table, second bytes after their first:
@@ -27,9 +29,10 @@ struct model_registers {
 /* The eleven calls of a chip. */
 #define MODEL_CALLS(chip) \
 void chip##_power_up(struct model_registers *r); \
-/* *read_flag is 1 and *byte the byte where the cycle is an accepted data or status read, else both are left alone. */ \
+/* *read_flag is 1 and *byte the byte where the cycle is an accepted data or status read, else both are left alone. \
+   *fresh is 1 (fresh) or 0 (stale) where the cycle is an accepted data read, else, after a status read too, left alone. */ \
 uint8_t chip##_cycle(struct model_registers *r, uint8_t *memory, size_t memory_len, uint8_t kind, uint8_t value, \
-                     uint8_t *read_flag, uint8_t *byte); \
+                     uint8_t *read_flag, uint8_t *byte, uint8_t *fresh); \
 uint8_t chip##_read_instruction(uint8_t awaited, uint8_t byte, uint8_t *number, uint8_t *value); \
 /* another number than 0 to 20, or a value outside the field (also a value other than 0 where there is no field), is 6 */ \
 uint8_t chip##_write_instruction(uint8_t number, uint8_t value, uint8_t *byte); \

@@ -57,20 +57,28 @@ module _ {k : Sheet} {r : Registers} {m cycles : List ℕ} {o : Outputs} where
 
 -- ---- each number exactly when
 
--- one of the three outputs is shorter than so many cycles
+-- one of the four outputs is shorter than so many cycles
 abbrev pub ShortOutputs : ℕ → Outputs → Type 0
-ShortOutputs n o = ((length (o .numbers) < n) ⊎ (length (o .reads) < n)) ⊎ (length (o .bytes) < n)
+ShortOutputs n o = (((length (o .numbers) < n) ⊎ (length (o .reads) < n)) ⊎ (length (o .bytes) < n)) ⊎ (length (o .fresh) < n)
+
+-- what two tests stand for, either of them
+or-exactly : (a b : Bool) {A B : Type 0} → Exactly (a ≡ true) A → Exactly (b ≡ true) B → Exactly (a || b ≡ true) (A ⊎ B)
+or-exactly a b f g = (
+  λ e. ⊎-elim (λ t. inl (f .0 t)) (λ t. inr (g .0 t)) (either a b e),
+  λ h. or-true a b (⊎-elim (λ t. inl (f .1 t)) (λ t. inr (g .1 t)) h),
+)
+
+below : (n : ℕ) {m : ℕ} → Exactly (ltb m n ≡ true) (m < n)
+below n {m} = (ltb-true m n, lt-ltb m n)
 
 short-yes : (n : ℕ) (o : Outputs) → Exactly (tooShort n o ≡ true) (ShortOutputs n o)
 unfolding tooShort
 short-yes n o =
     let a = ltb (length (o .numbers)) n in
     let b = ltb (length (o .reads)) n in
-    let c = ltb (length (o .bytes)) n in (
-      λ e. ⊎-elim (λ t. inl (⊎-elim (λ u. inl (ltb-true _ n u)) (λ u. inr (ltb-true _ n u)) (either a b t))) (λ t. inr (ltb-true _ n t)) (either (a || b) c e),
-      λ h. or-true (a || b) c
-          (⊎-elim (λ t. inl (or-true a b (⊎-elim (λ u. inl (lt-ltb _ n u)) (λ u. inr (lt-ltb _ n u)) t))) (λ t. inr (lt-ltb _ n t)) h),
-    )
+    let c = ltb (length (o .bytes)) n in
+    let d = ltb (length (o .fresh)) n in
+    or-exactly (a || b || c) d (or-exactly (a || b) c (or-exactly a b (below n) (below n)) (below n)) (below n)
 
 refused-with : (n : ℕ) (a : Ran) → n ≢ 0 → Exactly (a ≡ Refused n) (toldRan a .number ≡ n)
 refused-with n (After r) h = (λ e. ap (λ x. toldRan x .number) e, λ e. absurd (h (sym e)))

@@ -21,16 +21,17 @@ use Rattle.registers.specs.declared.Registers.{Registers}
 use Rattle.controller.specs.State.{State, state}
 use Rattle.controller.specs.Turn.{Turn}
 use Rattle.bus.specs.Cycles.{cyclesOf, turns}
-use Rattle.bus.specs.Run.{Outputs, numberEntry, readEntry, byteEntry, answered, tooShort, runRefusal, refusalOf, IsRun}
+use Rattle.bus.specs.Run.{Outputs, numberEntry, readEntry, byteEntry, freshEntry, answered, tooShort, runRefusal, refusalOf, IsRun}
 use Rattle.bus.specs.Filling.{putFrom, Filled}
 use Rattle.bus.specs.declared.run.Ran.the-variants.{After, Refused}
 use Rattle.bus.proofs.Playing.{cycles-count, turns-count}
 
--- the three outputs have room for n answers
+-- the four outputs have room for n answers
 record Room (n : ℕ) (o : Outputs) : Type 0 where
   numbers-room : n ≤ length (o .numbers)
   reads-room : n ≤ length (o .reads)
   bytes-room : n ≤ length (o .bytes)
+  fresh-room : n ≤ length (o .fresh)
 
 room : (n : ℕ) (o : Outputs) → tooShort n o ≡ false → Room n o
 unfolding tooShort
@@ -38,11 +39,14 @@ room n o e =
     let a = ltb (length (o .numbers)) n in
     let b = ltb (length (o .reads)) n in
     let c = ltb (length (o .bytes)) n in
-    let f = or-left (a || b) c e in
+    let d = ltb (length (o .fresh)) n in
+    let f = or-left (a || b || c) d e in
+    let g = or-left (a || b) c f in
     record {
-      numbers-room = ltb-false (length (o .numbers)) n (or-left a b f);
-      reads-room = ltb-false (length (o .reads)) n (or-right a b f);
-      bytes-room = ltb-false (length (o .bytes)) n (or-right (a || b) c e);
+      numbers-room = ltb-false (length (o .numbers)) n (or-left a b g);
+      reads-room = ltb-false (length (o .reads)) n (or-right a b g);
+      bytes-room = ltb-false (length (o .bytes)) n (or-right (a || b) c f);
+      fresh-room = ltb-false (length (o .fresh)) n (or-right (a || b || c) d e);
     }
 
 -- ---- what is put from entry 0 on stands in front
@@ -54,12 +58,12 @@ in-front f ts out h =
 
 put-answered : (ts : List Turn) (o : Outputs) → Room (length ts) o → putFrom o 0 ts ≡ answered ts o
 put-answered ts o h =
-    rw (in-front numberEntry ts (o .numbers) (h .numbers-room), in-front readEntry ts (o .reads) (h .reads-room), in-front byteEntry ts (o .bytes) (h .bytes-room)) refl
+    rw (in-front numberEntry ts (o .numbers) (h .numbers-room), in-front readEntry ts (o .reads) (h .reads-room), in-front byteEntry ts (o .bytes) (h .bytes-room), in-front freshEntry ts (o .fresh) (h .fresh-room)) refl
 
 -- ---- the number, as the code finds it: it counts pairs of bytes
 
 module _ (k : Sheet) (r : Registers) (m cycles : List ℕ) (o : Outputs) {c : Sheet} {n : ℕ} (same : c ≡ k)
-    (found : n ≡ runRefusal c r (length m) (ltb (length (o .numbers)) (length cycles / 2) || ltb (length (o .reads)) (length cycles / 2) || ltb (length (o .bytes)) (length cycles / 2))) where
+    (found : n ≡ runRefusal c r (length m) (ltb (length (o .numbers)) (length cycles / 2) || ltb (length (o .reads)) (length cycles / 2) || ltb (length (o .bytes)) (length cycles / 2) || ltb (length (o .fresh)) (length cycles / 2))) where
   number-is : n ≡ refusalOf k r m cycles o
   unfolding tooShort
   number-is = rw (cycles-count cycles) (rw same at found)
@@ -70,10 +74,10 @@ module _ (k : Sheet) (r : Registers) (m cycles : List ℕ) (o : Outputs) {c : Sh
       past (tooShort (length (cyclesOf cycles)) o) 5 0 0 (λ e. omega arith) .0
       (past (outside k r) 2 _ 0 (λ e. omega arith) .0 (past (not (eqb (length m) (9 * k .width))) 1 _ 0 (λ e. omega arith) .0 (sym number-is ∙ z) .1) .1) .0
 
-  pub has-room : n ≡ 0 → (length cycles / 2 ≤ length (o .numbers)) × (length cycles / 2 ≤ length (o .reads)) × (length cycles / 2 ≤ length (o .bytes))
+  pub has-room : n ≡ 0 → (length cycles / 2 ≤ length (o .numbers)) × (length cycles / 2 ≤ length (o .reads)) × (length cycles / 2 ≤ length (o .bytes)) × (length cycles / 2 ≤ length (o .fresh))
   has-room z =
       let h : Room (length cycles / 2) o = rw (cycles-count cycles) at (room (length (cyclesOf cycles)) o (long-enough z)) in
-      (h .numbers-room, h .reads-room, h .bytes-room)
+      (h .numbers-room, h .reads-room, h .bytes-room, h .fresh-room)
 
   -- ---- the answer
 

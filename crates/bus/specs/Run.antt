@@ -18,17 +18,19 @@ use Rattle.bus.specs.Cycles.{cyclesOf, turns}
 use Rattle.bus.specs.declared.run.Ran.{Ran}
 use Rattle.bus.specs.declared.run.Ran.the-variants.{After, Refused}
 
--- ---- the three outputs, an entry a cycle
+-- ---- the four outputs, an entry a cycle
 
 pub record Outputs : Type 0 where
   pub numbers : List ℕ
   pub reads : List ℕ
   pub bytes : List ℕ
+  pub fresh : List ℕ
 
-abbrev pub outputs : List ℕ → List ℕ → List ℕ → Outputs
-outputs numbers reads bytes = record { numbers = numbers; reads = reads; bytes = bytes }
+abbrev pub outputs : List ℕ → List ℕ → List ℕ → List ℕ → Outputs
+outputs numbers reads bytes fresh = record { numbers = numbers; reads = reads; bytes = bytes; fresh = fresh }
 
--- the number that a cycle is refused with, 0 for none; 1 where it read a byte, else 0; and the byte, 0 where it read none
+-- the number that a cycle is refused with, 0 for none; 1 where it read a byte, else 0; the byte, 0 where it read none; and 1 where that is
+-- a fresh byte of a data read, else 0
 abbrev pub numberEntry : Turn → ℕ
 numberEntry t = t .number
 
@@ -38,13 +40,16 @@ readEntry t = t .read
 abbrev pub byteEntry : Turn → ℕ
 byteEntry t = t .byte
 
+abbrev pub freshEntry : Turn → ℕ
+freshEntry t = t .fresh
+
 -- the answers in front of the outputs: longer ones keep their rest
 abbrev pub answered : List Turn → Outputs → Outputs
-answered ts o = outputs (over (map numberEntry ts) (o .numbers)) (over (map readEntry ts) (o .reads)) (over (map byteEntry ts) (o .bytes))
+answered ts o = outputs (over (map numberEntry ts) (o .numbers)) (over (map readEntry ts) (o .reads)) (over (map byteEntry ts) (o .bytes)) (over (map freshEntry ts) (o .fresh))
 
 -- an output is shorter than the list of cycles
 unfoldable pub tooShort : ℕ → Outputs → Bool
-tooShort n o = ltb (length (o .numbers)) n || ltb (length (o .reads)) n || ltb (length (o .bytes)) n
+tooShort n o = ltb (length (o .numbers)) n || ltb (length (o .reads)) n || ltb (length (o .bytes)) n || ltb (length (o .fresh)) n
 
 -- ---- the whole list
 

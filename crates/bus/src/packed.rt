@@ -18,15 +18,16 @@ fn run_on(
     numbers: &mut [u8],
     reads: &mut [u8],
     bytes: &mut [u8],
+    fresh: &mut [u8],
 ) -> Ran
-    ensures { λ a. ⌜ RunOn (now (state .entry)) (now (memory .entry)) (now (cycles .entry)) (outputs (now (numbers .entry)) (now (reads .entry)) (now (bytes .entry)))
-        a (now (memory .exit)) (outputs (now (numbers .exit)) (now (reads .exit)) (now (bytes .exit))) ⌝ }
+    ensures { λ a. ⌜ RunOn (now (state .entry)) (now (memory .entry)) (now (cycles .entry)) (outputs (now (numbers .entry)) (now (reads .entry)) (now (bytes .entry)) (now (fresh .entry)))
+        a (now (memory .exit)) (outputs (now (numbers .exit)) (now (reads .exit)) (now (bytes .exit)) (now (fresh .exit))) ⌝ }
 {
     let size = 9 * ks0713().width;
     if is_unfit(state) {
         return Ran::Refused(unfit_number(memory.len() != size));
     }
-    run(unpack(state), memory, cycles, numbers, reads, bytes)
+    run(unpack(state), memory, cycles, numbers, reads, bytes, fresh)
 }
 
 // Plays the cycles: the state and the memory become what they are after them, and each cycle's answer goes into the outputs.
@@ -39,11 +40,12 @@ pub extern "C" fn bus_run(
     numbers: &mut [u8],
     reads: &mut [u8],
     bytes: &mut [u8],
+    fresh: &mut [u8],
 ) -> u8
-    ensures { λ r. ⌜ RunOut (now (state .entry)) (now (memory .entry)) (now (cycles .entry)) (outputs (now (numbers .entry)) (now (reads .entry)) (now (bytes .entry)))
-        (now (state .exit)) (now (memory .exit)) (outputs (now (numbers .exit)) (now (reads .exit)) (now (bytes .exit))) r ⌝ }
+    ensures { λ r. ⌜ RunOut (now (state .entry)) (now (memory .entry)) (now (cycles .entry)) (outputs (now (numbers .entry)) (now (reads .entry)) (now (bytes .entry)) (now (fresh .entry)))
+        (now (state .exit)) (now (memory .exit)) (outputs (now (numbers .exit)) (now (reads .exit)) (now (bytes .exit)) (now (fresh .exit))) r ⌝ }
 {
-    match run_on(&*state, memory, cycles, numbers, reads, bytes) {
+    match run_on(&*state, memory, cycles, numbers, reads, bytes, fresh) {
         Ran::After(registers) => {
             *state = pack(registers);
             0

@@ -32,10 +32,11 @@ fn turn_at(
     numbers: &mut [u8],
     reads: &mut [u8],
     bytes: &mut [u8],
+    fresh: &mut [u8],
 ) -> Registers
-    requires { ⌜ (i < length (now numbers)) × (i < length (now reads)) × (i < length (now bytes)) ⌝ }
-    ensures { λ r. ⌜ TurnPut sheet0713 (state registers (now (memory .entry))) (kind, value) (outputs (now (numbers .entry)) (now (reads .entry)) (now (bytes .entry))) i
-        (state r (now (memory .exit))) (outputs (now (numbers .exit)) (now (reads .exit)) (now (bytes .exit))) ⌝ }
+    requires { ⌜ (i < length (now numbers)) × (i < length (now reads)) × (i < length (now bytes)) × (i < length (now fresh)) ⌝ }
+    ensures { λ r. ⌜ TurnPut sheet0713 (state registers (now (memory .entry))) (kind, value) (outputs (now (numbers .entry)) (now (reads .entry)) (now (bytes .entry)) (now (fresh .entry))) i
+        (state r (now (memory .exit))) (outputs (now (numbers .exit)) (now (reads .exit)) (now (bytes .exit)) (now (fresh .exit))) ⌝ }
 {
     take_turn(
         registers,
@@ -45,6 +46,7 @@ fn turn_at(
         &mut numbers[i],
         &mut reads[i],
         &mut bytes[i],
+        &mut fresh[i],
     )
 }
 
@@ -56,10 +58,11 @@ fn play_all(
     numbers: &mut [u8],
     reads: &mut [u8],
     bytes: &mut [u8],
+    fresh: &mut [u8],
 ) -> Registers
-    requires { ⌜ (length (now cycles) / 2 ≤ length (now numbers)) × (length (now cycles) / 2 ≤ length (now reads)) × (length (now cycles) / 2 ≤ length (now bytes)) ⌝ }
-    ensures { λ r. ⌜ Filled sheet0713 (state registers (now (memory .entry))) (cyclesOf (now (cycles .entry))) (outputs (now (numbers .entry)) (now (reads .entry)) (now (bytes .entry))) 0
-        (state r (now (memory .exit))) (outputs (now (numbers .exit)) (now (reads .exit)) (now (bytes .exit))) ⌝ }
+    requires { ⌜ (length (now cycles) / 2 ≤ length (now numbers)) × (length (now cycles) / 2 ≤ length (now reads)) × (length (now cycles) / 2 ≤ length (now bytes)) × (length (now cycles) / 2 ≤ length (now fresh)) ⌝ }
+    ensures { λ r. ⌜ Filled sheet0713 (state registers (now (memory .entry))) (cyclesOf (now (cycles .entry))) (outputs (now (numbers .entry)) (now (reads .entry)) (now (bytes .entry)) (now (fresh .entry))) 0
+        (state r (now (memory .exit))) (outputs (now (numbers .exit)) (now (reads .exit)) (now (bytes .exit)) (now (fresh .exit))) ⌝ }
 {
     let mut after = registers;
     let mut i = 0;
@@ -73,6 +76,7 @@ fn play_all(
             numbers,
             reads,
             bytes,
+            fresh,
         );
         i += 1;
     }
@@ -98,9 +102,9 @@ fn refusal_of(chip: Sheet, registers: Registers, memory: usize, short: bool) -> 
 }
 
 // Plays the cycles on the KS0713, two bytes a cycle: kind, value; a last odd byte is no cycle. Answers the registers after them, and
-// puts each cycle's answer into the outputs: its number, whether it read a byte (1 or 0), and the byte (0 where it read none). A
-// cycle that is refused changes nothing, and the next is played. Refuses the whole list with 1, 2, 5, tested in this order, and then
-// leaves memory and outputs as they were. Longer outputs keep their rest.
+// puts each cycle's answer into the outputs: its number, whether it read a byte (1 or 0), the byte (0 where it read none), and whether
+// that is a fresh byte of a data read (1 or 0). A cycle that is refused changes nothing, and the next is played. Refuses the whole list
+// with 1, 2, 5, tested in this order, and then leaves memory and outputs as they were. Longer outputs keep their rest.
 pub fn run(
     registers: Registers,
     memory: &mut [u8],
@@ -108,15 +112,19 @@ pub fn run(
     numbers: &mut [u8],
     reads: &mut [u8],
     bytes: &mut [u8],
+    fresh: &mut [u8],
 ) -> Ran
-    ensures { λ a. ⌜ IsRun sheet0713 registers (now (memory .entry)) (now (cycles .entry)) (outputs (now (numbers .entry)) (now (reads .entry)) (now (bytes .entry)))
-        a (now (memory .exit)) (outputs (now (numbers .exit)) (now (reads .exit)) (now (bytes .exit))) ⌝ }
+    ensures { λ a. ⌜ IsRun sheet0713 registers (now (memory .entry)) (now (cycles .entry)) (outputs (now (numbers .entry)) (now (reads .entry)) (now (bytes .entry)) (now (fresh .entry)))
+        a (now (memory .exit)) (outputs (now (numbers .exit)) (now (reads .exit)) (now (bytes .exit)) (now (fresh .exit))) ⌝ }
 {
     let count = cycles.len() / 2;
-    let short = (numbers.len() < count) | (reads.len() < count) | (bytes.len() < count);
+    let short = (numbers.len() < count)
+        | (reads.len() < count)
+        | (bytes.len() < count)
+        | (fresh.len() < count);
     let number = refusal_of(ks0713(), registers, memory.len(), short);
     if number != 0 {
         return Ran::Refused(number);
     }
-    Ran::After(play_all(registers, memory, cycles, numbers, reads, bytes))
+    Ran::After(play_all(registers, memory, cycles, numbers, reads, bytes, fresh))
 }

@@ -33,7 +33,7 @@ fn awaited_byte(awaited: Awaited) {
 }
 
 // Page, column, start line, contrast, resistor, power, bias, ADC, SHL, reverse, entire, on, indicator, its value, holder, pin
-// low, saved column, awaited.
+// low, saved column, awaited, and whether a data read would be fresh.
 fn show(registers: Registers) {
     let mode = registers.modify_read;
     let awaited = registers.awaited;
@@ -49,6 +49,7 @@ fn show(registers: Registers) {
     flag(registers.pin_low);
     saved(mode);
     awaited_byte(awaited);
+    flag(registers.fresh);
     line();
 }
 
@@ -66,16 +67,21 @@ fn status(byte: u8) {
     told(b" status", byte);
 }
 
-fn read(byte: u8) {
+fn read(byte: u8, fresh: bool) {
     told(b" read", byte);
+    if fresh {
+        word(b" f");
+    } else {
+        word(b" s");
+    }
 }
 
-// A read prints its byte, a refusal its number.
+// A read prints its byte, a data read whether it is fresh, a refusal its number.
 fn tell(answer: Answer) {
     match answer {
         Answer::Done(_) => (),
         Answer::Status(byte) => status(byte),
-        Answer::Read(_, byte) => read(byte),
+        Answer::Read(_, byte, fresh) => read(byte, fresh),
         Answer::Refused(number) => refused(number),
     }
 }
@@ -85,7 +91,7 @@ fn after(registers: Registers, answer: Answer) -> Registers {
     match answer {
         Answer::Done(next) => next,
         Answer::Status(_) => registers,
-        Answer::Read(next, _) => next,
+        Answer::Read(next, _, _) => next,
         Answer::Refused(_) => registers,
     }
 }
@@ -187,6 +193,7 @@ fn altered() -> Registers {
         pin_low: true,
         modify_read: ModifyRead::On(Column(88)),
         awaited: Awaited::Contrast,
+        fresh: true,
     }
 }
 
@@ -225,10 +232,10 @@ pub(crate) fn cycles() {
         power_up(),
         b"\x02\x00\xff\xff\x00\xa1\x02\x00\xff\xff\x00\xaf\x02\x00\xff\xff\x04\x00\x02\x00\xff\xff",
     );
-    // Pin low, and then high; pin high alone.
+    // Pin low, and then high; pin high alone, and then a data read, which tells the mark that it was handed.
     run(
         altered(),
-        b"\x04\x00\xff\xff\x04\x00\x05\x00\xff\xff\x05\x00\xff\xff",
+        b"\x04\x00\xff\xff\x04\x00\x05\x00\xff\xff\x05\x00\xff\xff\x05\x00\x03\x00\xff\xff",
     );
     // A status read and a pin cycle with a value, and a kind above 5: no cycles.
     run(

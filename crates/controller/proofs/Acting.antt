@@ -14,16 +14,15 @@ use Rattle.paper.specs.declared.sheet.Sheet.{Sheet}
 use Rattle.instructions.specs.Read.{readOf}
 use Rattle.instructions.specs.declared.instruction.Instruction.{Instruction}
 use Rattle.instructions.proofs.Fits.{read-fits}
-use Rattle.registers.specs.Registers.{Ranged, outside}
+use Rattle.registers.specs.Registers.{Ranged, withFresh, outside}
 use Rattle.registers.specs.declared.Registers.{Registers}
 use Rattle.registers.proofs.InRange.{ranged, ranges}
-use Rattle.controller.specs.Execute.{executed}
 use Rattle.controller.specs.Memory.{stored}
-use Rattle.controller.specs.Cycle.{done, written, malformed, heldLow, refusal, carried, kept, answer, memoryAfter}
+use Rattle.controller.specs.Cycle.{done, written, afterInstruction, malformed, heldLow, refusal, carried, kept, answer, memoryAfter}
 use Rattle.controller.specs.Run.{BusCycle}
 use Rattle.controller.specs.State.{State, state, afterBy, step, number, Restartable}
 use Rattle.controller.proofs.Cells.{both-false, stored-length}
-use Rattle.controller.proofs.Ranges.{executed-ranged, executed-pin, stays-ranged}
+use Rattle.controller.proofs.Ranges.{marked-ranged, executed-ranged, executed-pin, stays-ranged}
 
 -- ---- no number before 4
 
@@ -68,16 +67,16 @@ does k s x r m e f =
 
 -- an instruction byte that is read as i, with whatever is awaited
 pub acts : (k : Sheet) → Sensible k → (s : State) (i : Instruction) (b : ℕ) → Restartable k s → readOf k (s .registers .awaited) b ≡ given i
-    → (number k s (0, b) ≡ 0) × (step k s (0, b) ≡ state (executed k (s .registers) i) (s .memory)) × Restartable k (step k s (0, b))
+    → (number k s (0, b) ≡ 0) × (step k s (0, b) ≡ state (afterInstruction k (s .registers) i) (s .memory)) × Restartable k (step k s (0, b))
 unfolding carried kept
 acts k g s i b h e =
     let r = s .registers in
-    let d = does k s (0, b) (executed k r i) (s .memory) (carries h 0 b refl ∙ rw e refl) (keeps h 0 b refl) in (
+    let d = does k s (0, b) (afterInstruction k r i) (s .memory) (carries h 0 b refl ∙ rw e refl) (keeps h 0 b refl) in (
       d .0,
       d .1,
       subst (Restartable k) (sym (d .1)) (record {
         long = h .long;
-        ranged = ranged k (executed k r i) (executed-ranged k g r i (read-fits k g (r .awaited) b i e) (ranges k r (h .ranged)));
+        ranged = ranged k (afterInstruction k r i) (marked-ranged k _ _ (executed-ranged k g r i (read-fits k g (r .awaited) b i e) (ranges k r (h .ranged))));
         high = executed-pin k r i ∙ h .high;
       }),
     )
@@ -85,18 +84,18 @@ acts k g s i b h e =
 -- a data write, wherever the column stands
 pub writes : (k : Sheet) → Sensible k → (s : State) (b : ℕ) → Restartable k s
     → (number k s (1, b) ≡ 0)
-    × (step k s (1, b) ≡ state (written (k .width) (s .registers) b) (stored (k .width) (s .memory) (s .registers .page) (s .registers .column .0) b))
+    × (step k s (1, b) ≡ state (withFresh (written (k .width) (s .registers) b) false) (stored (k .width) (s .memory) (s .registers .page) (s .registers .column .0) b))
     × Restartable k (step k s (1, b))
 unfolding carried kept written
 writes k g s b h =
     let r = s .registers in
     let m = stored (k .width) (s .memory) (r .page) (r .column .0) b in
-    let d = does k s (1, b) (written (k .width) r b) m (carries h 1 b refl) (keeps h 1 b refl) in (
+    let d = does k s (1, b) (withFresh (written (k .width) r b) false) m (carries h 1 b refl) (keeps h 1 b refl) in (
       d .0,
       d .1,
       subst (Restartable k) (sym (d .1)) (record {
         long = stored-length (k .width) (s .memory) (r .page) (r .column .0) b ∙ h .long;
-        ranged = ranged k (written (k .width) r b) (subst (λ o. Ranged k (afterBy r (o .registers))) (carries h 1 b refl) (stays-ranged k g r (s .memory) 1 b (ranges k r (h .ranged))));
+        ranged = ranged k (withFresh (written (k .width) r b) false) (subst (λ o. Ranged k (afterBy r (o .registers))) (carries h 1 b refl) (stays-ranged k g r (s .memory) 1 b (ranges k r (h .ranged))));
         high = h .high;
       }),
     )

@@ -17,11 +17,11 @@ use Rattle.instructions.specs.declared.instruction.Instruction.{Instruction}
 use Rattle.instructions.specs.declared.instruction.Instruction.the-variants.{ColumnLow, ColumnHigh, ContrastNext, ContrastValue, IndicatorOff, IndicatorValue, Page, Nop}
 use Rattle.instructions.proofs.Fields.{field-given}
 use Rattle.instructions.proofs.ReadBack.{read-back}
-use Rattle.registers.specs.Registers.{column, withContrast, withIndicator, withIndicatorValue, withAwaited}
+use Rattle.registers.specs.Registers.{column, withContrast, withIndicator, withIndicatorValue, withAwaited, withFresh}
 use Rattle.registers.specs.declared.Registers.{Registers}
 use Rattle.controller.specs.Execute.{executed}
 use Rattle.controller.specs.Memory.{stored}
-use Rattle.controller.specs.Cycle.{written}
+use Rattle.controller.specs.Cycle.{written, afterInstruction}
 use Rattle.controller.specs.State.{State, state, step, number, Restartable, Ready, placed, rest, settings, indicatorAwaited}
 use Rattle.controller.specs.Chip.{View, Chip, Restart, dataCycle, nopCycle, askCycle, onColumn, withRest, wrote}
 use Rattle.controller.proofs.Cells.{advanced-below}
@@ -33,9 +33,9 @@ viewOf s = record { page = s .registers .page; column = s .registers .column .0;
 -- ---- one instruction byte, by what it is the byte of
 
 module _ (k : Sheet) (g : Sensible k) (s : State) where
-  -- accepted, ready stays, and the registers are as executed
+  -- accepted, ready stays, and the registers are those after the instruction
   abbrev pub Obeyed : Instruction → ℕ → Type 0
-  Obeyed i b = (number k s (0, b) ≡ 0) × (step k s (0, b) ≡ state (executed k (s .registers) i) (s .memory)) × Restartable k (step k s (0, b))
+  Obeyed i b = (number k s (0, b) ≡ 0) × (step k s (0, b) ≡ state (afterInstruction k (s .registers) i) (s .memory)) × Restartable k (step k s (0, b))
 
   -- where nothing is awaited
   pub obeys : Ready k s → (i : Instruction) (b : ℕ) → awaitedFor i ≡ awaited.Nothing → writeOf k i ≡ given b → Obeyed i b
@@ -94,8 +94,8 @@ module _ (k : Sheet) (g : Sensible k) (s : State) (h : Restartable k s) where
 
   spent-as : (i : Instruction) (v : ℕ) → readOf k (s .registers .awaited) 0xe3 ≡ given i
       → (executed k (s .registers) i .awaited ≡ awaited.Nothing)
-      × (withRest (rest (s .registers)) (viewOf (state (executed k (s .registers) i) (s .memory))) ≡ viewOf s)
-      × (settings (rest (executed k (s .registers) i)) ≡ settings (rest (s .registers)))
+      × (withRest (rest (s .registers)) (viewOf (state (afterInstruction k (s .registers) i) (s .memory))) ≡ viewOf s)
+      × (settings (rest (afterInstruction k (s .registers) i)) ≡ settings (rest (s .registers)))
       × (executed k (s .registers) i .«indicator_value» ≡ v)
       → Spent v
   spent-as i v q f =
@@ -140,7 +140,7 @@ restartOf k g = record {
       let q : readOf k (step k s askCycle .registers .awaited) v ≡ given (ContrastValue v) =
       subst (λ a. readOf k a v ≡ given (ContrastValue v)) (sym (ap (λ t. t .registers .awaited) (d .1))) (ap (λ (x : ℕ). given (ContrastValue x)) (omega arith)) in
       let e = acts k g (step k s askCycle) (ContrastValue v) v (d .2) q in
-      let f = e .1 ∙ ap (λ t. state (executed k (t .registers) (ContrastValue v)) (t .memory)) (d .1) in (
+      let f = e .1 ∙ ap (λ t. state (afterInstruction k (t .registers) (ContrastValue v)) (t .memory)) (d .1) in (
         e .0,
         record { restartable = e .2; quiet = ap (λ t. t .registers .awaited) f },
         ap (λ t. withRest (rest (s .registers)) (viewOf t)) f,
@@ -153,17 +153,18 @@ restartOf k g = record {
 
 -- ---- registers from what a stream moved and what it left
 
--- after an update: page, column and holder, all else as in r
-pub moved : (a r : Registers) {p c h : ℕ} → rest a ≡ rest r → a .page ≡ p → a .column .0 ≡ c → a .holder ≡ h → a ≡ placed r p c h
-moved a r e ep ec eh = rw (← ep, ← ec, ← eh) (ap (λ x. placed x (a .page) (a .column .0) (a .holder)) e)
+-- after an update: page, column, holder and the mark, all else as in r
+pub moved : (a r : Registers) {p c h : ℕ} {f : Bool} → rest a ≡ rest r → a .page ≡ p → a .column .0 ≡ c → a .holder ≡ h → a .fresh ≡ f
+    → a ≡ withFresh (placed r p c h) f
+moved a r e ep ec eh ef = rw (← ep, ← ec, ← eh, ← ef) (ap (λ x. withFresh (placed x (a .page) (a .column .0) (a .holder)) (a .fresh)) e)
 
 -- contrast, indicator and what is awaited as given, all else as in r
 abbrev pub set : Registers → ℕ → Bool → ℕ → Awaited → Registers
 set r contrast indicator value waits = withAwaited (withIndicatorValue (withIndicator (withContrast r contrast) indicator) value) waits
 
 -- after a redraw: these besides
-pub redrawn : (a r : Registers) {p c h k v : ℕ} {i : Bool} {w : Awaited} → settings (rest a) ≡ settings (rest r) → a .page ≡ p → a .column .0 ≡ c → a .holder ≡ h
-    → a .contrast ≡ k → a .indicator ≡ i → a .«indicator_value» ≡ v → a .awaited ≡ w → a ≡ set (placed r p c h) k i v w
-redrawn a r e ep ec eh ek ei ev ew =
-    rw (← ep, ← ec, ← eh, ← ek, ← ei, ← ev, ← ew)
-    (ap (λ x. set (placed x (a .page) (a .column .0) (a .holder)) (a .contrast) (a .indicator) (a .«indicator_value») (a .awaited)) e)
+pub redrawn : (a r : Registers) {p c h k v : ℕ} {i f : Bool} {w : Awaited} → settings (rest a) ≡ settings (rest r) → a .page ≡ p → a .column .0 ≡ c → a .holder ≡ h
+    → a .contrast ≡ k → a .indicator ≡ i → a .«indicator_value» ≡ v → a .awaited ≡ w → a .fresh ≡ f → a ≡ withFresh (set (placed r p c h) k i v w) f
+redrawn a r e ep ec eh ek ei ev ew ef =
+    rw (← ep, ← ec, ← eh, ← ek, ← ei, ← ev, ← ew, ← ef)
+    (ap (λ x. withFresh (set (placed x (a .page) (a .column .0) (a .holder)) (a .contrast) (a .indicator) (a .«indicator_value») (a .awaited)) (a .fresh)) e)

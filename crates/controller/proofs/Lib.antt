@@ -7,6 +7,8 @@ pub mod Numbered
 pub mod Spelled
 pub mod Readers
 pub mod Resetting
+pub mod Marks
+pub mod Fresh
 pub mod Refusals
 pub mod ShutOuts
 pub mod Turning

@@ -30,8 +30,8 @@ done-so r = record { most = omega arith; some-number = λ e f. absurd (let z : _
 status-so : (b : ℕ) → Numbered (statusRead b)
 status-so b = record { most = omega arith; some-number = λ e f. absurd (let z : _≡_ {A = ℕ} 0 1 = cc in omega arith) }
 
-read-so : (b : ℕ) (r : Registers) → Numbered (dataRead b r)
-read-so b r = record { most = omega arith; some-number = λ e f. absurd (let z : _≡_ {A = ℕ} 0 1 = cc in omega arith) }
+read-so : (b : ℕ) (f : Bool) (r : Registers) → Numbered (dataRead b f r)
+read-so b f r = record { most = omega arith; some-number = λ e f. absurd (let z : _≡_ {A = ℕ} 0 1 = cc in omega arith) }
 
 instructed-so : (k : Sheet) (r : Registers) (n : ℕ) (x : Option Instruction) → Proper k n x → Numbered (instructedBy k r n x)
 instructed-so k r n (some i) h = done-so _
@@ -43,7 +43,7 @@ carried-so k g r m kind value =
     chosen Numbered (eqb kind 0) (instructed-so k r _ (readOf k (r .awaited) value .value) (read-proper k g (r .awaited) value))
     (chosen Numbered (eqb kind 1) (done-so _)
     (chosen Numbered (eqb kind 2) (status-so _)
-    (chosen Numbered (eqb kind 3) (read-so _ _)
+    (chosen Numbered (eqb kind 3) (read-so _ _ _)
     (chosen Numbered (eqb kind 4) (done-so _) (done-so _)))))
 
 refusal-most : (k : Sheet) (n : ℕ) (r : Registers) (kind value : ℕ) → refusal k n r kind value ≤ 9

@@ -19,7 +19,7 @@ use Rattle.instructions.specs.declared.instruction.Instruction.{Instruction}
 use Rattle.instructions.specs.declared.instruction.Instruction.the-variants.{ColumnLow, ColumnHigh, Resistor, Power, StartLine, ContrastNext, ContrastValue, Adc, Bias, Entire, Reverse, IndicatorOff, IndicatorOn, IndicatorValue, Display, Page, Shl, ModifyReadOn, ModifyReadOff, Reset, Nop}
 use Rattle.instructions.proofs.Fields.{in-field}
 use Rattle.instructions.proofs.Fits.{Fits, Proper, read-proper}
-use Rattle.registers.specs.Registers.{savedOf, Ranged}
+use Rattle.registers.specs.Registers.{savedOf, withFresh, Ranged}
 use Rattle.registers.specs.declared.ModifyRead.{ModifyRead}
 use Rattle.registers.specs.declared.ModifyRead.the-variants.{Off, On}
 use Rattle.registers.specs.declared.Registers.{Registers}
@@ -109,9 +109,13 @@ executed-pin k r Nop = refl
 
 -- ---- a whole cycle
 
+-- the mark has no range
+pub marked-ranged : (k : Sheet) (r : Registers) (f : Bool) → Ranged k r → Ranged k (withFresh r f)
+marked-ranged k r f h = omega arith
+
 instructed-ranged : (k : Sheet) → Sensible k → (r : Registers) (n : ℕ) (x : Option Instruction) → Proper k n x → Ranged k r
     → Ranged k (afterBy r (instructedBy k r n x .registers))
-instructed-ranged k g r n (some i) f h = executed-ranged k g r i (f .1) h
+instructed-ranged k g r n (some i) f h = marked-ranged k _ _ (executed-ranged k g r i (f .1) h)
 instructed-ranged k g r n none f h = h
 
 advanced-by : (w c d : ℕ) (t : Bool) → ltb c w ≡ t → w < d → c < d → cond t (c + 1) c < d
@@ -139,9 +143,9 @@ stays-ranged k g r m kind value h =
     let P : Outcome → Type 0 = λ o. Ranged k (afterBy r (o .registers)) in
     chosen P (eqb (refusal k (length m) r kind value) 0)
     (chosen P (eqb kind 0) (instructed-ranged k g r _ (readOf k (r .awaited) value .value) (read-proper k g (r .awaited) value) h)
-    (chosen P (eqb kind 1) (written-ranged k g r value h)
+    (chosen P (eqb kind 1) (marked-ranged k _ false (written-ranged k g r value h))
     (chosen P (eqb kind 2) h
-    (chosen P (eqb kind 3) (read-ranged k g r (r .«modify_read») _ h)
+    (chosen P (eqb kind 3) (marked-ranged k _ true (read-ranged k g r (r .«modify_read») _ h))
     (chosen P (eqb kind 4) (omega (arith, g .wide, g .first)) (omega arith))))))
     h
 

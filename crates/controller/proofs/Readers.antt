@@ -1,5 +1,5 @@
--- What a reader of the data sheet wants to know of the bus, each fact short: what changes nothing, what reading back gives, what
--- modify-read restores, that the column never runs on into another page, and what a reset by the pin leaves.
+-- What a reader of the data sheet wants to know of the bus, each fact short: what changes nothing, what reading back gives and which of
+-- it is fresh, what modify-read restores, that the column never runs on into another page, and what a reset by the pin leaves.
 -- Assumes nothing.
 use Prim.Native.Nat.{ℕ, zero, suc, _+_, _*_, _/_, _%_, _≤_, _<_}
 use mathlib.Core.Path.{_≡_, _∙_, refl, ap, sym, subst}
@@ -21,19 +21,18 @@ use Rattle.instructions.specs.Read.{readOf}
 use Rattle.instructions.specs.declared.instruction.Instruction.{Instruction}
 use Rattle.instructions.specs.declared.instruction.Instruction.the-variants.{ColumnLow, ColumnHigh, Page, ModifyReadOn, ModifyReadOff}
 use Rattle.instructions.proofs.Fields.{field-given}
-use Rattle.registers.specs.Registers.{outside, withModifyRead, withHolder, withPinLow, start}
+use Rattle.registers.specs.Registers.{outside, withModifyRead, withHolder, withPinLow, withFresh, start}
 use Rattle.registers.specs.declared.Column.{Column}
 use Rattle.registers.specs.declared.ModifyRead.{ModifyRead}
 use Rattle.registers.specs.declared.ModifyRead.the-variants.{Off, On}
 use Rattle.registers.specs.declared.Registers.{Registers}
 use Rattle.registers.proofs.InRange.{ranged, ranges}
-use Rattle.controller.specs.Execute.{executed}
 use Rattle.controller.specs.Memory.{loaded, advanced}
-use Rattle.controller.specs.Cycle.{Outcome, dataRead, instructedBy, written, afterRead, refusal, carried, kept, answer, memoryAfter}
+use Rattle.controller.specs.Cycle.{Outcome, dataRead, refusedWith, afterInstruction, instructedBy, written, afterRead, refusal, carried, kept, answer, memoryAfter}
 use Rattle.controller.specs.Run.{BusCycle}
 use Rattle.controller.specs.Chip.{pageCycle, highCycle, lowCycle, dataCycle}
 use Rattle.controller.specs.State.{State, state, afterBy, step, number, run, Restartable, Ready, placed}
-use Rattle.controller.specs.ReadBack.{bytesRead, cellsFrom}
+use Rattle.controller.specs.ReadBack.{marked, bytesRead, cellsFrom}
 use Rattle.controller.proofs.Cells.{past-columns, stored-none, advanced-below, advanced-locked}
 use Rattle.controller.proofs.Ranges.{stays-ranged}
 use Rattle.controller.proofs.Acting.{carries, keeps, writes}
@@ -72,7 +71,7 @@ module _ (k : Sheet) (r : Registers) (m : List ℕ) (value : ℕ) where
   stays-at : (kind : ℕ) (t : Bool) → eqb kind 1 ≡ t → (answer k r m kind value .number ≡ 0) ⊎ (memoryAfter k r m kind value ≡ m)
   unfolding answer memoryAfter carried kept
   stays-at kind true e =
-      let P : Bool → Type 0 = λ b. (cond b (carried k r m 1 value) (record { number = refusal k (length m) r 1 value; byte = none; registers = none }) .number ≡ 0) ⊎ (cond b (kept (k .width) r m 1 value) m ≡ m) in
+      let P : Bool → Type 0 = λ b. (cond b (carried k r m 1 value) (refusedWith (refusal k (length m) r 1 value)) .number ≡ 0) ⊎ (cond b (kept (k .width) r m 1 value) m ≡ m) in
       subst (λ (x : ℕ). (answer k r m x value .number ≡ 0) ⊎ (memoryAfter k r m x value ≡ m)) (sym (eqb-true kind 1 e)) (by P (eqb (refusal k (length m) r 1 value) 0) (inl refl) (inr refl))
     where
       by : (P : Bool → Type 0) (b : Bool) → P true → P false → P b
@@ -90,13 +89,13 @@ refused-nothing k s x h =
     ap (λ o. state (afterBy r o) (memoryAfter k r (s .memory) (x .0) (x .1))) (refused-by (number k s x) h (silent k r (s .memory) (x .1) (x .0)))
     ∙ ap (state r) (refused-by (number k s x) h (stays-at k r (s .memory) (x .1) (x .0) (eqb (x .0) 1) refl))
 
--- E0 while on, and EE while off
+-- E0 while on, and EE while off, change nothing but the mark: the next data read is stale
 module _ (k : Sheet) (g : Sensible k) (s : State) (h : Ready k s) where
-  pub save-on-nothing : (c : Column) → s .registers .«modify_read» ≡ On c → step k s (0, 0xe0) ≡ s
-  save-on-nothing c e = obeys k g s h ModifyReadOn 0xe0 refl refl .1 ∙ rw e refl
+  pub save-on-stale : (c : Column) → s .registers .«modify_read» ≡ On c → step k s (0, 0xe0) ≡ state (withFresh (s .registers) false) (s .memory)
+  save-on-stale c e = obeys k g s h ModifyReadOn 0xe0 refl refl .1 ∙ rw e refl
 
-  pub restore-off-nothing : s .registers .«modify_read» ≡ Off → step k s (0, 0xee) ≡ s
-  restore-off-nothing e = obeys k g s h ModifyReadOff 0xee refl refl .1 ∙ rw e refl
+  pub restore-off-stale : s .registers .«modify_read» ≡ Off → step k s (0, 0xee) ≡ state (withFresh (s .registers) false) (s .memory)
+  restore-off-stale e = obeys k g s h ModifyReadOff 0xee refl refl .1 ∙ rw e refl
 
 -- ---- what data cycles leave alone
 
@@ -109,7 +108,7 @@ pub record Left (r n : Registers) : Type 0 where
 left-all : (r : Registers) → Left r r
 left-all r = record { page = refl; modify-read = refl; awaited = refl }
 
-read-leaves : (w : ℕ) (r : Registers) (m : ModifyRead) (b : ℕ) → Left r (afterRead w r m b)
+read-leaves : (w : ℕ) (r : Registers) (m : ModifyRead) (b : ℕ) → Left r (withFresh (afterRead w r m b) true)
 unfolding written
 read-leaves w r Off b = record { page = refl; modify-read = refl; awaited = refl }
 read-leaves w r (On c) b = record { page = refl; modify-read = refl; awaited = refl }
@@ -187,27 +186,28 @@ module _ (k : Sheet) (g : Sensible k) where
       → run k s ((0, 0xe0) ∷ (map dataCycle bs ++ ((0, 0xee) ∷ []))) .registers .column ≡ s .registers .column
   modify-restores bs s h e =
       let d = obeys k g s h ModifyReadOn 0xe0 refl refl in
-      let f : step k s (0, 0xe0) ≡ state (withModifyRead (s .registers) (On (s .registers .column))) (s .memory) = d .1 ∙ rw e refl in
+      let f : step k s (0, 0xe0) ≡ state (withFresh (withModifyRead (s .registers) (On (s .registers .column))) false) (s .memory) = d .1 ∙ rw e refl in
       writes-restore bs (step k s (0, 0xe0)) (s .registers .column)
       (record { restartable = d .2; quiet = ap (λ t. t .registers .awaited) f ∙ h .quiet })
       (ap (λ t. t .registers .«modify_read») f)
 
--- ---- reading back: the first read answers the old holder, and n more answer the n cells from the column on
+-- ---- reading back: the first read answers the old holder, and n more are fresh and answer the n cells from the column on
 
 module _ (k : Sheet) (g : Sensible k) where
   -- one data read without modify-read
   read-one : (s : State) → Restartable k s → s .registers .«modify_read» ≡ Off
-      → (answer k (s .registers) (s .memory) 3 0 .byte ≡ some (s .registers .holder))
-      × (step k s (3, 0) ≡ state (written (k .width) (s .registers) (loaded (k .width) (s .memory) (s .registers .page) (s .registers .column .0))) (s .memory))
+      → ((answer k (s .registers) (s .memory) 3 0 .byte, answer k (s .registers) (s .memory) 3 0 .fresh) ≡ marked (s .registers .holder) (s .registers .fresh))
+      × (step k s (3, 0) ≡ state (withFresh (written (k .width) (s .registers) (loaded (k .width) (s .memory) (s .registers .page) (s .registers .column .0))) true) (s .memory))
       × Restartable k (step k s (3, 0))
   unfolding carried kept written
   read-one s h e =
       let r = s .registers in
       let b = loaded (k .width) (s .memory) (r .page) (r .column .0) in
-      let a : answer k r (s .memory) 3 0 ≡ dataRead (r .holder) (written (k .width) r b) = carries h 3 0 refl ∙ rw e refl in
-      let q : step k s (3, 0) ≡ state (written (k .width) r b) (s .memory) =
-      ap (λ o. state (afterBy r (o .registers)) (memoryAfter k r (s .memory) 3 0)) a ∙ ap (state (written (k .width) r b)) (keeps h 3 0 refl) in (
-        ap (λ o. o .byte) a,
+      let n = withFresh (written (k .width) r b) true in
+      let a : answer k r (s .memory) 3 0 ≡ dataRead (r .holder) (r .fresh) n = carries h 3 0 refl ∙ rw e refl in
+      let q : step k s (3, 0) ≡ state n (s .memory) =
+      ap (λ o. state (afterBy r (o .registers)) (memoryAfter k r (s .memory) 3 0)) a ∙ ap (state n) (keeps h 3 0 refl) in (
+        ap (λ o. (o .byte, o .fresh)) a,
         q,
         record {
           long = ap (λ t. length (t .memory)) q ∙ h .long;
@@ -217,7 +217,7 @@ module _ (k : Sheet) (g : Sensible k) where
       )
 
   pub reads-back : (n : ℕ) (s : State) → Restartable k s → s .registers .«modify_read» ≡ Off → s .registers .column .0 + n ≤ k .width
-      → bytesRead k s (suc n) ≡ some (s .registers .holder) ∷ cellsFrom (k .width) (s .memory) (s .registers .page) (s .registers .column .0) n
+      → bytesRead k s (suc n) ≡ marked (s .registers .holder) (s .registers .fresh) ∷ cellsFrom (k .width) (s .memory) (s .registers .page) (s .registers .column .0) n
   unfolding bytesRead cellsFrom written
   reads-back zero s h e l = rw (read-one s h e .0) refl
   reads-back (suc n) s h e l =
@@ -226,16 +226,17 @@ module _ (k : Sheet) (g : Sensible k) where
       let d = read-one s h e in
       let up : advanced (k .width) c ≡ suc c = advanced-below (k .width) c (omega arith) ∙ add-one c in
       let at : step k s (3, 0) .registers .column .0 ≡ suc c = ap (λ t. t .registers .column .0) (d .1) ∙ up in
-      rw (d .0) (ap (λ l. some (r .holder) ∷ l) (
+      rw (d .0) (ap (λ l. marked (r .holder) (r .fresh) ∷ l) (
       reads-back n (step k s (3, 0)) (d .2) (read-keeps k s 0 .modify-read ∙ e) (omega arith)
-      ∙ ap (λ t. some (t .registers .holder) ∷ cellsFrom (k .width) (t .memory) (t .registers .page) (t .registers .column .0) n) (d .1)
-      ∙ ap (λ (x : ℕ). some (loaded (k .width) (s .memory) (r .page) c) ∷ cellsFrom (k .width) (s .memory) (r .page) x n) up
+      ∙ ap (λ t. marked (t .registers .holder) (t .registers .fresh) ∷ cellsFrom (k .width) (t .memory) (t .registers .page) (t .registers .column .0) n) (d .1)
+      ∙ ap (λ (x : ℕ). marked (loaded (k .width) (s .memory) (r .page) c) true ∷ cellsFrom (k .width) (s .memory) (r .page) x n) up
       ))
 
-  -- so after an address set the first read is a dummy: it answers what the holder held before, and only the next is the cell
+  -- so after an address set the first read is a dummy and stale: it answers what the holder held before. The next are fresh, and each is
+  -- a cell: whoever takes the fresh bytes alone takes the page as it is from the column on
   pub dummy-read : (n p c : ℕ) (s : State) → Ready k s → s .registers .«modify_read» ≡ Off → p ≤ 15 → c + n ≤ k .width → c < k .width
       → bytesRead k (run k s (pageCycle p ∷ highCycle (c / 16) ∷ lowCycle (c % 16) ∷ [])) (suc n)
-      ≡ some (s .registers .holder) ∷ cellsFrom (k .width) (s .memory) p c n
+      ≡ marked (s .registers .holder) false ∷ cellsFrom (k .width) (s .memory) p c n
   dummy-read n p c s h e hp hn hc =
       let r = s .registers in
       let d1 = obeys k g s h (Page p) (0xb0 + p) refl (field-given 0xb0 16 p (omega arith)) in
@@ -245,12 +246,12 @@ module _ (k : Sheet) (g : Sensible k) where
       let h2 = still k s1 (ColumnHigh (c / 16)) (0x10 + c / 16) g d2 (h1 .quiet) in
       let s2 = step k s1 (highCycle (c / 16)) in
       let d3 = obeys k g s2 h2 (ColumnLow (c % 16)) (0x00 + c % 16) refl (field-given 0x00 16 (c % 16) (omega arith)) in
-      let f : step k s2 (lowCycle (c % 16)) ≡ state (placed r p c (r .holder)) (s .memory) =
+      let f : step k s2 (lowCycle (c % 16)) ≡ state (withFresh (placed r p c (r .holder)) false) (s .memory) =
       d3 .1
-      ∙ ap (λ t. state (executed k (t .registers) (ColumnLow (c % 16))) (t .memory)) (d2 .1 ∙ ap (λ t. state (executed k (t .registers) (ColumnHigh (c / 16))) (t .memory)) (d1 .1))
-      ∙ ap (λ (x : ℕ). state (placed r p x (r .holder)) (s .memory)) (omega (arith, g .wide, g .byte)) in
+      ∙ ap (λ t. state (afterInstruction k (t .registers) (ColumnLow (c % 16))) (t .memory)) (d2 .1 ∙ ap (λ t. state (afterInstruction k (t .registers) (ColumnHigh (c / 16))) (t .memory)) (d1 .1))
+      ∙ ap (λ (x : ℕ). state (withFresh (placed r p x (r .holder)) false) (s .memory)) (omega (arith, g .wide, g .byte)) in
       ap (λ t. bytesRead k t (suc n)) f
-      ∙ reads-back n (state (placed r p c (r .holder)) (s .memory)) (subst (Restartable k) f (d3 .2)) e hn
+      ∙ reads-back n (state (withFresh (placed r p c (r .holder)) false) (s .memory)) (subst (Restartable k) f (d3 .2)) e hn
 
 -- ---- the pin: from any registers in range, low then high leaves power-up's registers but for the holder, and the memory
 

@@ -16,21 +16,22 @@ use Rattle.instructions.specs.declared.instruction.Awaited.the-variants as awai
 use Rattle.instructions.specs.declared.instruction.Instruction.{Instruction}
 use Rattle.instructions.specs.declared.instruction.Instruction.the-variants.{Power, ContrastValue, Adc, Bias, Entire, Reverse, IndicatorValue, Display, ModifyReadOn, Reset}
 use Rattle.instructions.proofs.Fields.{field-given, flag-given}
-use Rattle.registers.specs.Registers.{column, withContrast, withIndicatorValue, withAwaited, withPinLow, withHolder, start}
+use Rattle.registers.specs.Registers.{column, withContrast, withIndicatorValue, withAwaited, withPinLow, withHolder, withFresh, start}
 use Rattle.registers.specs.declared.ModifyRead.{ModifyRead}
 use Rattle.registers.specs.declared.ModifyRead.the-variants.{Off, On}
 use Rattle.registers.specs.declared.Registers.{Registers}
-use Rattle.controller.specs.Execute.{executed}
+use Rattle.controller.specs.Execute.{saved, executed}
+use Rattle.controller.specs.Cycle.{afterInstruction}
 use Rattle.controller.specs.Run.{BusCycle}
 use Rattle.controller.specs.Chip.{dataCycle, nopCycle}
 use Rattle.controller.specs.State.{State, state, step, number, run, Restartable, Ready}
 use Rattle.controller.proofs.Acting.{acts}
 use Rattle.controller.proofs.Chips.{obeys, still, written-ready, spent-by}
-use Rattle.controller.proofs.Readers.{save-on-nothing, restore-off-nothing, pin-resets}
+use Rattle.controller.proofs.Readers.{restore-off-stale, pin-resets}
 
 -- ---- register by register
 
--- nine at their start value, nine as they were
+-- nine at their start value, the mark stale, nine as they were
 abbrev pub afterReset : Sheet → Registers → Registers
 afterReset k r = record {
   page = 0;
@@ -51,7 +52,13 @@ afterReset k r = record {
   «pin_low» = r .«pin_low»;
   «modify_read» = Off;
   awaited = r .awaited;
+  fresh = false;
 }
+
+-- E0 leaves what is awaited
+saved-quiet : (r : Registers) (m : ModifyRead) → saved r m .awaited ≡ r .awaited
+saved-quiet r Off = refl
+saved-quiet r (On c) = refl
 
 module _ (k : Sheet) (g : Sensible k) where
   -- where nothing is awaited E2 is accepted, leaves the registers so, and the memory as it was
@@ -66,12 +73,15 @@ module _ (k : Sheet) (g : Sensible k) where
 
   -- whatever was saved, EE after E2 changes nothing
   pub reset-forgets : (s : State) → Ready k s → run k s ((0, 0xe2) ∷ (0, 0xee) ∷ []) ≡ step k s (0, 0xe2)
-  reset-forgets s h = restore-off-nothing k g (step k s (0, 0xe2)) (reset-ready s h) (ap (λ t. t .registers .«modify_read») (reset-by-name s h .1))
+  reset-forgets s h =
+      let e = reset-by-name s h .1 in
+      restore-off-stale k g (step k s (0, 0xe2)) (reset-ready s h) (ap (λ t. t .registers .«modify_read») e)
+      ∙ ap (λ t. state (withFresh (t .registers) false) (t .memory)) e ∙ sym e
 
   -- E0 leaves a ready state, a column saved or not
-  save-ready : (s : State) (m : ModifyRead) → Ready k s → s .registers .«modify_read» ≡ m → Ready k (step k s (0, 0xe0))
-  save-ready s Off h e = still k s ModifyReadOn 0xe0 g (obeys k g s h ModifyReadOn 0xe0 refl refl) (rw e (h .quiet))
-  save-ready s (On c) h e = subst (Ready k) (sym (save-on-nothing k g s h c e)) h
+  save-ready : (s : State) → Ready k s → Ready k (step k s (0, 0xe0))
+  save-ready s h =
+      still k s ModifyReadOn 0xe0 g (obeys k g s h ModifyReadOn 0xe0 refl refl) (saved-quiet (s .registers) (s .registers .«modify_read») ∙ h .quiet)
 
   -- writes, E2, EE: the column is 0
   writes-reset : (bs : List ℕ) (s : State) → Ready k s → run k s (map dataCycle bs ++ ((0, 0xe2) ∷ (0, 0xee) ∷ [])) .registers .column .0 ≡ 0
@@ -81,7 +91,7 @@ module _ (k : Sheet) (g : Sensible k) where
   -- E0, any writes, E2, EE: the column is 0, whatever E0 saved
   pub reset-in-modify-read : (bs : List ℕ) (s : State) → Ready k s
       → run k s ((0, 0xe0) ∷ (map dataCycle bs ++ ((0, 0xe2) ∷ (0, 0xee) ∷ []))) .registers .column .0 ≡ 0
-  reset-in-modify-read bs s h = writes-reset bs (step k s (0, 0xe0)) (save-ready s (s .registers .«modify_read») h refl)
+  reset-in-modify-read bs s h = writes-reset bs (step k s (0, 0xe0)) (save-ready s h)
 
   -- ---- taken as a second byte E2 is a value, contrast 34 or indicator value 2, and resets nothing
 
@@ -109,10 +119,10 @@ one-byte k i b f w q = record { instruction = i; byte = b; first = f; spelled = 
 abbrev cycle-of : {k : Sheet} → OneByte k → BusCycle
 cycle-of p = (0, p .byte)
 
--- what such instructions do to the registers, one after the other
+-- the registers after such instructions, one after the other
 all-executed : (k : Sheet) → Registers → List (OneByte k) → Registers
 all-executed k r [] = r
-all-executed k r (p ∷ ps) = all-executed k (executed k r (p .instruction)) ps
+all-executed k r (p ∷ ps) = all-executed k (afterInstruction k r (p .instruction)) ps
 
 module _ (k : Sheet) (g : Sensible k) where
   all-obeyed : (ps : List (OneByte k)) (s : State) → Ready k s → run k s (map cycle-of ps) ≡ state (all-executed k (s .registers) ps) (s .memory)

@@ -19,9 +19,8 @@ use Rattle.instructions.specs.declared.instruction.Awaited.the-variants as awai
 use Rattle.instructions.specs.declared.instruction.Instruction.the-variants.{IndicatorOn, IndicatorValue}
 use Rattle.registers.specs.Registers.{outside, withIndicator, withIndicatorValue, withAwaited, withPinLow, start}
 use Rattle.registers.specs.declared.Registers.{Registers}
-use Rattle.controller.specs.Execute.{executed}
 use Rattle.controller.specs.Memory.{cellOf}
-use Rattle.controller.specs.Cycle.{statusRead, status, malformed, carried, kept, answer}
+use Rattle.controller.specs.Cycle.{statusRead, status, afterInstruction, malformed, carried, kept, answer}
 use Rattle.controller.specs.State.{State, state, step, number, Restartable, Ready}
 use Rattle.controller.proofs.Cells.{both-true, cell-icons, cell-whole, stored-same, stored-other}
 use Rattle.controller.proofs.Acting.{unheld, does, acts, writes}
@@ -85,7 +84,7 @@ module _ (k : Sheet) (g : Sensible k) (s : State) (h : Ready k s) where
       let t = step k s (0, 0xad) in
       let q : readOf k (t .registers .awaited) v ≡ given (IndicatorValue (v % 4)) = rw (ap (λ x. x .registers .awaited) (d .1)) refl in
       let e = acts k g t (IndicatorValue (v % 4)) v (d .2) q in
-      (e .0, e .1 ∙ ap (λ x. state (executed k (x .registers) (IndicatorValue (v % 4))) (x .memory)) (d .1))
+      (e .0, e .1 ∙ ap (λ x. state (afterInstruction k (x .registers) (IndicatorValue (v % 4))) (x .memory)) (d .1))
 
 -- ---- a data write below the width
 

@@ -26,19 +26,21 @@ use Rattle.controller.specs.declared.cycle.Answer.the-variants.{Done, St
 -- ---- one answer
 
 back : Outcome → Answer
-back o = by (o .number) (o .byte) (o .registers)
+back o = by (o .number) (o .byte) (o .fresh) (o .registers)
   where
-    by : ℕ → Option ℕ → Option Registers → Answer
-    by n none none = Refused n
-    by n none (some r) = Done r
-    by n (some b) none = Status b
-    by n (some b) (some r) = Read r b
+    -- a byte without a mark is a status byte, whatever the registers
+    by : ℕ → Option ℕ → Option Bool → Option Registers → Answer
+    by n none f none = Refused n
+    by n none f (some r) = Done r
+    by n (some b) f none = Status b
+    by n (some b) none (some r) = Status b
+    by n (some b) (some f) (some r) = Read r b f
 
 back-is : (a : Answer) → back (outcome a) ≡ a
 unfolding back
 back-is (Done r) = refl
 back-is (Status b) = refl
-back-is (Read r b) = refl
+back-is (Read r b f) = refl
 back-is (Refused n) = refl
 
 -- two answers and two memories that a cycle's promise admits are equal

@@ -12,39 +12,41 @@ use Rattle.paper.specs.Told.{Told}
 use Rattle.paper.specs.declared.sheet.Sheet.{Sheet}
 use Rattle.instructions.specs.Read.{readOf, assigned, nothingAwaited}
 use Rattle.instructions.specs.declared.instruction.Instruction.{Instruction}
-use Rattle.registers.specs.Registers.{column, withColumn, withHolder, withPinLow, start, outside}
+use Rattle.registers.specs.Registers.{column, withColumn, withHolder, withPinLow, withFresh, start, outside}
 use Rattle.registers.specs.declared.ModifyRead.{ModifyRead}
 use Rattle.registers.specs.declared.ModifyRead.the-variants.{Off, On}
 use Rattle.registers.specs.declared.Registers.{Registers}
-use Rattle.controller.specs.Execute.{executed}
+use Rattle.controller.specs.Execute.{executed, endsReading}
 use Rattle.controller.specs.Memory.{stored, loaded, advanced}
 use Rattle.controller.specs.declared.cycle.Answer.{Answer}
 use Rattle.controller.specs.declared.cycle.Answer.the-variants.{Done, Status, Read, Refused}
 
 -- ---- an answer as the paper tells it
 
--- the number it is refused with, 0 for none, the byte that is read, and the registers after it where they may change
+-- the number it is refused with, 0 for none, the byte that is read, whether that is fresh where it is a data read's, and the registers
+-- after it where they may change
 pub record Outcome : Type 0 where
   pub number : ℕ
   pub byte : Option ℕ
+  pub fresh : Option Bool
   pub registers : Option Registers
 
 abbrev pub done : Registers → Outcome
-done r = record { number = 0; byte = none; registers = some r }
+done r = record { number = 0; byte = none; fresh = none; registers = some r }
 
 abbrev pub statusRead : ℕ → Outcome
-statusRead b = record { number = 0; byte = some b; registers = none }
+statusRead b = record { number = 0; byte = some b; fresh = none; registers = none }
 
-abbrev pub dataRead : ℕ → Registers → Outcome
-dataRead b r = record { number = 0; byte = some b; registers = some r }
+abbrev pub dataRead : ℕ → Bool → Registers → Outcome
+dataRead b f r = record { number = 0; byte = some b; fresh = some f; registers = some r }
 
 abbrev pub refusedWith : ℕ → Outcome
-refusedWith n = record { number = n; byte = none; registers = none }
+refusedWith n = record { number = n; byte = none; fresh = none; registers = none }
 
 abbrev pub outcome : Answer → Outcome
 outcome (Done r) = done r
 outcome (Status b) = statusRead b
-outcome (Read r b) = dataRead b r
+outcome (Read r b f) = dataRead b f r
 outcome (Refused n) = refusedWith n
 
 -- ---- the six kinds
@@ -62,21 +64,26 @@ afterRead w r (On c) b = withHolder r b
 unfoldable pub status : Registers → ℕ
 status r = cond (r .adc) 0 64 + cond (r .on) 0 32 + cond (r .«pin_low») 16 0
 
+-- an instruction: what it does; and the mark stays, but for one that ends reading
+abbrev pub afterInstruction : Sheet → Registers → Instruction → Registers
+afterInstruction k r i = withFresh (executed k r i) (not (endsReading i) && r .fresh)
+
 -- an instruction byte that was read as this
 abbrev pub instructedBy : Sheet → Registers → ℕ → Option Instruction → Outcome
-instructedBy k r n (some i) = done (executed k r i)
+instructedBy k r n (some i) = done (afterInstruction k r i)
 instructedBy k r n none = refusedWith n
 
 abbrev pub instructed : Sheet → Registers → Told Instruction → Outcome
 instructed k r t = instructedBy k r (t .number) (t .value)
 
--- kinds 0 instruction, 1 data write, 2 status read, 3 data read, 4 reset pin low, 5 reset pin high
+-- kinds 0 instruction, 1 data write, 2 status read, 3 data read, 4 reset pin low, 5 reset pin high. A data read answers the mark that
+-- it finds, and after it the mark is fresh; after a data write and pin low it is stale
 unfoldable pub carried : Sheet → Registers → List ℕ → ℕ → ℕ → Outcome
 carried k r m kind value =
     cond (eqb kind 0) (instructed k r (readOf k (r .awaited) value))
-    (cond (eqb kind 1) (done (written (k .width) r value))
+    (cond (eqb kind 1) (done (withFresh (written (k .width) r value) false))
     (cond (eqb kind 2) (statusRead (status r))
-    (cond (eqb kind 3) (dataRead (r .holder) (afterRead (k .width) r (r .«modify_read») (loaded (k .width) m (r .page) (r .column .0))))
+    (cond (eqb kind 3) (dataRead (r .holder) (r .fresh) (withFresh (afterRead (k .width) r (r .«modify_read») (loaded (k .width) m (r .page) (r .column .0))) true))
     (cond (eqb kind 4) (done (start k (r .holder) true))
     (done (withPinLow r false))))))
 

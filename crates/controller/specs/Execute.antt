@@ -1,7 +1,8 @@
--- What an instruction does to the registers: document 01's column "Effect", row by row, E2's as order 5 has it.
+-- What an instruction does to the registers: document 01's column "Effect", row by row, E2's as order 5 has it. And which of them
+-- make the next data read a stale one, as order 2 has it.
 -- Assumes nothing.
 use Prim.Native.Nat.{ℕ, _+_, _*_, _/_, _%_}
-use mathlib.Core.Bool.{true, false}
+use mathlib.Core.Bool.{Bool, true, false}
 use Rattle.paper.specs.declared.sheet.Sheet.{Sheet}
 use Rattle.instructions.specs.declared.instruction.Awaited.the-variants as awaited
 use Rattle.instructions.specs.declared.instruction.Instruction.{Instruction}
@@ -59,3 +60,27 @@ executed k r ModifyReadOn = saved r (r .«modify_read»)
 executed k r ModifyReadOff = restored r (r .«modify_read»)
 executed k r Reset = reset k r
 executed k r Nop = r
+
+-- a page or column instruction, E0, EE or E2: a data read after it is stale
+abbrev pub endsReading : Instruction → Bool
+endsReading (ColumnLow v) = true
+endsReading (ColumnHigh v) = true
+endsReading (Resistor v) = false
+endsReading (Power v) = false
+endsReading (StartLine v) = false
+endsReading ContrastNext = false
+endsReading (ContrastValue v) = false
+endsReading (Adc f) = false
+endsReading (Bias f) = false
+endsReading (Entire f) = false
+endsReading (Reverse f) = false
+endsReading IndicatorOff = false
+endsReading IndicatorOn = false
+endsReading (IndicatorValue v) = false
+endsReading (Display f) = false
+endsReading (Page v) = true
+endsReading (Shl f) = false
+endsReading ModifyReadOn = true
+endsReading ModifyReadOff = true
+endsReading Reset = true
+endsReading Nop = false

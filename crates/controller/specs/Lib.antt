@@ -4,5 +4,6 @@ pub mod Cycle
 pub mod Run
 pub mod State
 pub mod ReadBack
+pub mod Mark
 pub mod Chip
 pub mod Turn

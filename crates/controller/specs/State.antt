@@ -9,7 +9,7 @@ use lib.ListN.{length}
 use Rattle.paper.specs.declared.sheet.Sheet.{Sheet}
 use Rattle.instructions.specs.declared.instruction.Awaited.{Awaited}
 use Rattle.instructions.specs.declared.instruction.Awaited.the-variants as awaited
-use Rattle.registers.specs.Registers.{column, start, withPage, withColumn, withHolder, withContrast, withIndicator, withIndicatorValue, withAwaited, outside}
+use Rattle.registers.specs.Registers.{column, start, withPage, withColumn, withHolder, withContrast, withIndicator, withIndicatorValue, withAwaited, withFresh, outside}
 use Rattle.registers.specs.declared.Registers.{Registers}
 use Rattle.controller.specs.Cycle.{answer, memoryAfter}
 use Rattle.controller.specs.Run.{BusCycle, runBy, numbersBy}
@@ -68,7 +68,7 @@ placed r p c h = withHolder (withColumn (withPage r p) (column c)) h
 
 -- the registers without what an update moves
 abbrev pub rest : Registers → Registers
-rest r = placed r 0 0 0
+rest r = withFresh (placed r 0 0 0) false
 
 -- the registers without what a redraw moves
 abbrev pub settings : Registers → Registers

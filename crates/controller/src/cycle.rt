@@ -6,6 +6,7 @@ ghost use lib.ListN.{length};
 ghost use Rattle.paper.specs.Sheet.{Sensible, sheet0713, sheet0717};
 ghost use Rattle.instructions.specs.Read.{readOf};
 ghost use Rattle.controller.specs.Cycle.{status, malformed, refusal, written, afterRead, instructed, carried, kept, outcome, Cycled};
+use crate::execute::ends_reading;
 use crate::execute::execute;
 use crate::memory::advance;
 use crate::memory::load;
@@ -23,20 +24,22 @@ use registers::ModifyRead;
 use registers::Registers;
 use registers::outside_range;
 use registers::setters::with_column;
+use registers::setters::with_fresh;
 use registers::setters::with_holder;
 use registers::setters::with_pin_low;
 use registers::start::started;
 
-// What a cycle answers: the registers after it, the status byte, the registers after it and the byte read, or a refusal's number.
+// What a cycle answers: the registers after it; the status byte; the registers after it, the byte read and whether it is fresh; or a
+// refusal's number.
 pub enum Answer {
     Done(Registers),
     Status(u8),
-    Read(Registers, u8),
+    Read(Registers, u8, bool),
     Refused(u8),
 }
 
 // The one where a test holds, else the other; so never more than both.
-fn choose(test: bool, yes: u8, no: u8) -> u8
+pub(crate) fn choose(test: bool, yes: u8, no: u8) -> u8
     ensures { λ r. ⌜ (r ≡ cond test yes no) × (r ≤ yes + no) ⌝ }
 {
     if test { yes } else { no }
@@ -75,7 +78,10 @@ fn instruct(chip: Sheet, registers: Registers, byte: u8) -> Answer
 {
     let awaited = registers.awaited;
     match read_for(chip, awaited, byte) {
-        Reading::ReadAs(instruction) => Answer::Done(execute(chip, registers, instruction)),
+        Reading::ReadAs(instruction) => {
+            let fresh = !ends_reading(instruction) & registers.fresh;
+            Answer::Done(with_fresh(execute(chip, registers, instruction), fresh))
+        }
         Reading::Unread(number) => Answer::Refused(number),
     }
 }
@@ -121,7 +127,7 @@ fn carry_out(chip: Sheet, registers: Registers, memory: &mut [u8], kind: u8, val
     }
     if kind == 1 {
         store(width, &mut *memory, registers.page, registers.column, value);
-        return Answer::Done(after_write(width, registers, value));
+        return Answer::Done(with_fresh(after_write(width, registers, value), false));
     }
     if kind == 2 {
         return Answer::Status(status_of(registers));
@@ -129,7 +135,8 @@ fn carry_out(chip: Sheet, registers: Registers, memory: &mut [u8], kind: u8, val
     if kind == 3 {
         let byte = load(width, &*memory, registers.page, registers.column);
         let mode = registers.modify_read;
-        return Answer::Read(after_read(width, registers, mode, byte), registers.holder);
+        let next = with_fresh(after_read(width, registers, mode, byte), true);
+        return Answer::Read(next, registers.holder, registers.fresh);
     }
     if kind == 4 {
         return Answer::Done(started(chip, registers.holder, true));
@@ -149,8 +156,9 @@ fn cycle_for(chip: Sheet, registers: Registers, memory: &mut [u8], kind: u8, val
     carry_out(chip, registers, memory, kind, value)
 }
 
-// Plays one bus cycle on the KS0713. Answers the registers after it, and for a read the byte; refuses with 1, 2, 9, 3 or 4,
-// tested in this order. A refusal leaves the memory as it was.
+// Plays one bus cycle on the KS0713. Answers the registers after it, and for a read the byte; for a data read also whether it is
+// fresh, which the dummy after an address set is not. Refuses with 1, 2, 9, 3 or 4, tested in this order. A refusal leaves the memory
+// as it was.
 pub fn cycle(registers: Registers, memory: &mut [u8], kind: u8, value: u8) -> Answer
     ensures { λ a. ⌜ Cycled sheet0713 registers (now (memory .entry)) kind value a (now (memory .exit)) ⌝ }
 {

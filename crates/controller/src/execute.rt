@@ -1,6 +1,6 @@
 // What an instruction does to the registers.
 ghost use mathlib.Core.Path.{_≡_};
-ghost use Rattle.controller.specs.Execute.{saved, restored, reset, lowSet, highSet, executed};
+ghost use Rattle.controller.specs.Execute.{saved, restored, reset, lowSet, highSet, executed, endsReading};
 use instructions::instruction::Awaited;
 use instructions::instruction::Instruction;
 use paper::sheet::Sheet;
@@ -116,5 +116,34 @@ pub(crate) fn execute(chip: Sheet, registers: Registers, instruction: Instructio
         Instruction::ModifyReadOff => restore(registers, mode),
         Instruction::Reset => reset(chip, registers),
         Instruction::Nop => registers,
+    }
+}
+
+// Whether a data read after the instruction is stale: a page or column instruction, E0, EE or E2.
+pub(crate) fn ends_reading(instruction: Instruction) -> bool
+    ensures { λ b. ⌜ b ≡ endsReading instruction ⌝ }
+{
+    match instruction {
+        Instruction::ColumnLow(_) => true,
+        Instruction::ColumnHigh(_) => true,
+        Instruction::Resistor(_) => false,
+        Instruction::Power(_) => false,
+        Instruction::StartLine(_) => false,
+        Instruction::ContrastNext => false,
+        Instruction::ContrastValue(_) => false,
+        Instruction::Adc(_) => false,
+        Instruction::Bias(_) => false,
+        Instruction::Entire(_) => false,
+        Instruction::Reverse(_) => false,
+        Instruction::IndicatorOff => false,
+        Instruction::IndicatorOn => false,
+        Instruction::IndicatorValue(_) => false,
+        Instruction::Display(_) => false,
+        Instruction::Page(_) => true,
+        Instruction::Shl(_) => false,
+        Instruction::ModifyReadOn => true,
+        Instruction::ModifyReadOff => true,
+        Instruction::Reset => true,
+        Instruction::Nop => false,
     }
 }

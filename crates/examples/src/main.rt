@@ -57,6 +57,7 @@ fn example(name: &[u8]) {
 fn good() {
     example(b"worked.job");
     example(b"dummy-read.job");
+    example(b"marks.job");
     example(b"modify-read.job");
     example(b"reset.job");
     example(b"restart.job");

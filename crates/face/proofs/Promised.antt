@@ -51,7 +51,7 @@ use Rattle.planner.specs.declared.count.Count.the-variants as count
 use Rattle.planner.proofs.Exactly.{RightSize, ShortOutput, misfit-yes, misfit-no, wrong-size, right-size}
 use Rattle.planner.proofs.Scanning.{first-given}
 use Rattle.planner.proofs.Promised.{first-one, first-1, length-one, update-one, update-1, update-5, update-only, redraw-one, redraw-1, redraw-6, redraw-5, redraw-only}
-use Rattle.state.specs.Packed.{packed, unpacked, awaitedOf}
+use Rattle.state.specs.Packed.{flagByte, packed, unpacked, awaitedOf}
 use Rattle.state.specs.Unfit.{unfit, unfitNumber}
 use Rattle.face.specs.Chip.{PowerUpOut, CycleOut, FrameOut, PowerOut, VoltageOut, VoltageOut0717}
 use Rattle.face.specs.Bytes.{named, WrittenIf, ReadOut, WriteOut}
@@ -72,10 +72,10 @@ power-up-accepted k g f =
 
 -- ---- one cycle
 
-module _ (k : Sheet) (s m : List ℕ) (kind value read byte : ℕ) where
-  pub cycle-one : {s₁ s₂ m₁ m₂ : List ℕ} {read₁ read₂ byte₁ byte₂ r₁ r₂ : ℕ}
-      → CycleOut k s m kind value read byte s₁ m₁ read₁ byte₁ r₁ → CycleOut k s m kind value read byte s₂ m₂ read₂ byte₂ r₂
-      → (s₁ ≡ s₂) × (m₁ ≡ m₂) × (read₁ ≡ read₂) × (byte₁ ≡ byte₂) × (r₁ ≡ r₂)
+module _ (k : Sheet) (s m : List ℕ) (kind value read byte fresh : ℕ) where
+  pub cycle-one : {s₁ s₂ m₁ m₂ : List ℕ} {read₁ read₂ byte₁ byte₂ fresh₁ fresh₂ r₁ r₂ : ℕ}
+      → CycleOut k s m kind value read byte fresh s₁ m₁ read₁ byte₁ fresh₁ r₁ → CycleOut k s m kind value read byte fresh s₂ m₂ read₂ byte₂ fresh₂ r₂
+      → (s₁ ≡ s₂) × (m₁ ≡ m₂) × (read₁ ≡ read₂) × (byte₁ ≡ byte₂) × (fresh₁ ≡ fresh₂) × (r₁ ≡ r₂)
   cycle-one f g =
       let p = if-both (unfit s) (f .promised) (g .promised) (λ p q. (p .0 ∙ sym (q .0), p .1 ∙ sym (q .1))) (λ p q. cycled-one p q) in
       let e = p .0 in (
@@ -83,10 +83,11 @@ module _ (k : Sheet) (s m : List ℕ) (kind value read byte : ℕ) where
         p .1,
         f .told .read-left ∙ ap (λ a. leftBy (λ (b : ℕ). 1) read (outcome a .byte)) e ∙ sym (g .told .read-left),
         f .told .byte-left ∙ ap (λ a. leftBy (λ (b : ℕ). b) byte (outcome a .byte)) e ∙ sym (g .told .byte-left),
+        f .told .fresh-left ∙ ap (λ a. leftBy flagByte fresh (outcome a .fresh)) e ∙ sym (g .told .fresh-left),
         f .told .number ∙ ap (λ a. outcome a .number) e ∙ sym (g .told .number),
       )
 
-  module _ (h : value < 256) {s′ m′ : List ℕ} {read′ byte′ r : ℕ} (f : CycleOut k s m kind value read byte s′ m′ read′ byte′ r) where
+  module _ (h : value < 256) {s′ m′ : List ℕ} {read′ byte′ fresh′ r : ℕ} (f : CycleOut k s m kind value read byte fresh s′ m′ read′ byte′ fresh′ r) where
     pub cycle-number : r ≡ cond (unfit s) (unfitNumber (misfit (k .width) m)) (cycleNumber k (length m) (unpacked s) kind value)
     cycle-number = f .told .number ∙ if-split (unfit s) (f .promised)
         (λ t p. ap (λ a. outcome a .number) (p .0) ∙ rw t refl)
@@ -96,7 +97,7 @@ module _ (k : Sheet) (s m : List ℕ) (kind value read byte : ℕ) where
     cycle-0 = then (same-number cycle-number) (past (unfit s) _ _ 0 (unfit-some (misfit (k .width) m)))
 
   -- a state that is accepted stays one: whatever the cycle, the state that it leaves is fit and in range again
-  pub cycle-again : Sensible k → {s′ m′ : List ℕ} {read′ byte′ r : ℕ} → CycleOut k s m kind value read byte s′ m′ read′ byte′ r → Accepted k s → Accepted k s′
+  pub cycle-again : Sensible k → {s′ m′ : List ℕ} {read′ byte′ fresh′ r : ℕ} → CycleOut k s m kind value read byte fresh s′ m′ read′ byte′ fresh′ r → Accepted k s → Accepted k s′
   cycle-again g f a = if-split (unfit s) (f .promised) (λ t p. absurd (subst T (sym t ∙ a .0) tt))
       (λ t p. accepted-left k s (outcome (f .answer) .registers) a
       (λ q e. subst (λ (x : Option Registers). outside k (afterBy (unpacked s) x) ≡ false) e

@@ -77,20 +77,22 @@ count-silent (count.Refused n) = inr refl
 
 -- ---- the chip
 
--- a cycle: state, memory, and both out-parameters
-module _ (k : Sheet) (g : Sensible k) (s m : List ℕ) (kind value read byte : ℕ) {s′ m′ : List ℕ} {read′ byte′ r : ℕ} (f : CycleOut k s m kind value read byte s′ m′ read′ byte′ r) where
-  pub cycle-refused-leaves : r ≢ 0 → (s′ ≡ s) × (m′ ≡ m) × (read′ ≡ read) × (byte′ ≡ byte)
+-- a cycle: state, memory, and all three out-parameters
+module _ (k : Sheet) (g : Sensible k) (s m : List ℕ) (kind value read byte fresh : ℕ) {s′ m′ : List ℕ} {read′ byte′ fresh′ r : ℕ}
+    (f : CycleOut k s m kind value read byte fresh s′ m′ read′ byte′ fresh′ r) where
+  pub cycle-refused-leaves : r ≢ 0 → (s′ ≡ s) × (m′ ≡ m) × (read′ ≡ read) × (byte′ ≡ byte) × (fresh′ ≡ fresh)
   cycle-refused-leaves h = by-answer (f .answer) (f .promised) refl
     where
-      by-answer : (a : Answer) → CycledOn k s m kind value a m′ → f .answer ≡ a → (s′ ≡ s) × (m′ ≡ m) × (read′ ≡ read) × (byte′ ≡ byte)
+      by-answer : (a : Answer) → CycledOn k s m kind value a m′ → f .answer ≡ a → (s′ ≡ s) × (m′ ≡ m) × (read′ ≡ read) × (byte′ ≡ byte) × (fresh′ ≡ fresh)
       by-answer (cycle.Done n) p e = absurd (h (f .told .number ∙ ap (λ a. outcome a .number) e))
       by-answer (cycle.Status b) p e = absurd (h (f .told .number ∙ ap (λ a. outcome a .number) e))
-      by-answer (cycle.Read n b) p e = absurd (h (f .told .number ∙ ap (λ a. outcome a .number) e))
+      by-answer (cycle.Read n b o) p e = absurd (h (f .told .number ∙ ap (λ a. outcome a .number) e))
       by-answer (cycle.Refused n) p e = (
         rw e at (f .told .state-left),
         if-split (unfit s) p (λ t q. q .1) (λ t q. cycled-refused-leaves k g q .1),
         rw e at (f .told .read-left),
         rw e at (f .told .byte-left),
+        rw e at (f .told .fresh-left),
       )
 
 module _ (k : Sheet) (s m frame : List ℕ) {frame′ : List ℕ} {r : ℕ} (f : FrameOut k s m frame frame′ r) where

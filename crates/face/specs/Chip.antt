@@ -22,7 +22,7 @@ use Rattle.glass.specs.declared.power.PowerState.the-variants.{Normal, Sleep, S
 use Rattle.glass.specs.declared.power.Powered.{Powered}
 use Rattle.glass.specs.declared.power.Powered.the-variants as powered
 use Rattle.planner.specs.Pictures.{misfit}
-use Rattle.state.specs.Packed.{packed, unpacked}
+use Rattle.state.specs.Packed.{flagByte, packed, unpacked}
 use Rattle.state.specs.Unfit.{unfit, unfitNumber}
 
 -- power-up always gives a state, that of the registers at power-up
@@ -40,18 +40,20 @@ CycledOn k state memory kind value a memory′ =
     If (unfit state) ((a ≡ cycle.Refused (unfitNumber (misfit (k .width) memory))) × (memory′ ≡ memory))
     (Cycled k (unpacked state) memory kind value a memory′)
 
--- an answer, told: the state is that of the registers after it where they may change, and a byte that is read is told by `read` 1
-pub record CycleTold (answer : Answer) (state : List ℕ) (read byte : ℕ) (state′ : List ℕ) (read′ byte′ r : ℕ) : Type 0 where
+-- an answer, told: the state is that of the registers after it where they may change, a byte that is read is told by `read` 1, and a data
+-- read tells by `fresh` whether its byte is fresh, 1 or 0
+pub record CycleTold (answer : Answer) (state : List ℕ) (read byte fresh : ℕ) (state′ : List ℕ) (read′ byte′ fresh′ r : ℕ) : Type 0 where
   pub number : r ≡ outcome answer .number
   pub state-left : state′ ≡ leftBy packed state (outcome answer .registers)
   pub read-left : read′ ≡ leftBy (λ (b : ℕ). 1) read (outcome answer .byte)
   pub byte-left : byte′ ≡ leftBy same byte (outcome answer .byte)
+  pub fresh-left : fresh′ ≡ leftBy flagByte fresh (outcome answer .fresh)
 
 -- one cycle: refused with 1, 2, 9, 3, 4 in this order
-pub record CycleOut (k : Sheet) (state memory : List ℕ) (kind value read byte : ℕ) (state′ memory′ : List ℕ) (read′ byte′ r : ℕ) : Type 0 where
+pub record CycleOut (k : Sheet) (state memory : List ℕ) (kind value read byte fresh : ℕ) (state′ memory′ : List ℕ) (read′ byte′ fresh′ r : ℕ) : Type 0 where
   pub answer : Answer
   pub promised : CycledOn k state memory kind value answer memory′
-  pub told : CycleTold answer state read byte state′ read′ byte′ r
+  pub told : CycleTold answer state read byte fresh state′ read′ byte′ fresh′ r
 
 -- ---- the glass
 

@@ -9,12 +9,19 @@ use glass::frame::Shown;
 use glass::power::PowerState;
 use glass::power::Powered;
 use state::packed::State;
+use state::packed::flag_byte;
 use state::packed::pack;
 
-// A cycle: the state after it, and a byte that was read, with `read` 1.
-pub fn tell_cycle(answer: Answer, state: &mut State, read: &mut u8, byte: &mut u8) -> u8
-    ensures { λ r. ⌜ CycleTold answer (now (state .entry)) (now (read .entry)) (now (byte .entry))
-        (now (state .exit)) (now (read .exit)) (now (byte .exit)) r ⌝ }
+// A cycle: the state after it, a byte that was read, with `read` 1, and whether a data read's is fresh.
+pub fn tell_cycle(
+    answer: Answer,
+    state: &mut State,
+    read: &mut u8,
+    byte: &mut u8,
+    fresh: &mut u8,
+) -> u8
+    ensures { λ r. ⌜ CycleTold answer (now (state .entry)) (now (read .entry)) (now (byte .entry)) (now (fresh .entry))
+        (now (state .exit)) (now (read .exit)) (now (byte .exit)) (now (fresh .exit)) r ⌝ }
 {
     match answer {
         Answer::Done(after) => {
@@ -26,10 +33,11 @@ pub fn tell_cycle(answer: Answer, state: &mut State, read: &mut u8, byte: &mut u
             *byte = status;
             0
         }
-        Answer::Read(after, holder) => {
+        Answer::Read(after, holder, mark) => {
             *state = pack(after);
             *read = 1;
             *byte = holder;
+            *fresh = flag_byte(mark);
             0
         }
         Answer::Refused(number) => number,

@@ -1,5 +1,5 @@
--- Document 01's figures marked P, order 5's and the KS0717's hold: each is computed from the definitions that the promises cite. A stream of no bytes is shown
--- by its length, which is quicker to compute.
+-- Document 01's figures marked P, those of orders 5 and 2 and the KS0717's hold: each is computed from the definitions that the promises
+-- cite. A stream of no bytes is shown by its length, which is quicker to compute.
 -- Assumes nothing.
 use Prim.Native.Nat.{ℕ}
 use mathlib.Core.Path.{_≡_, _∙_, refl}
@@ -8,7 +8,7 @@ use native.Mathlib.Omega.{arith}
 use lib.ListN.{length}
 use Rattle.instructions.specs.Read.{classOf, roomIn, readBy, readFirst}
 use Rattle.registers.specs.Registers.{outside}
-use Rattle.controller.specs.Memory.{cellOf, isCell, stored, advanced}
+use Rattle.controller.specs.Memory.{cellOf, isCell, stored, loaded, advanced}
 use Rattle.controller.specs.Cycle.{written, status, carried, kept, refusal, answer, memoryAfter}
 use Rattle.controller.specs.Run.{BusCycle}
 use Rattle.glass.specs.Dot.{lineOf}
@@ -59,7 +59,7 @@ figures0717 = record {
 -- ---- all of them
 
 pub figures : Figures
-unfolding classOf roomIn readBy readFirst outside cellOf isCell stored advanced written status carried kept refusal answer memoryAfter shown differs onIt address emitBy joins join joinIf runs wantedBytes stretchOf pageWork workFrom update updateStream differing gaps gapCost pageLength lengthFrom updateLength lineOf numerator
+unfolding classOf roomIn readBy readFirst outside cellOf isCell stored loaded advanced written status carried kept refusal answer memoryAfter shown differs onIt address emitBy joins join joinIf runs wantedBytes stretchOf pageWork workFrom update updateStream differing gaps gapCost pageLength lengthFrom updateLength lineOf numerator
 figures = record {
   status-up = refl;
   status-low = refl;
@@ -72,6 +72,17 @@ figures = record {
   reset-contrast = refl;
   reset-indicator = refl;
   reset-value = refl;
+  mark-up = refl;
+  mark-read = refl;
+  mark-write = refl;
+  mark-page = refl;
+  mark-high = refl;
+  mark-low = refl;
+  mark-save = refl;
+  mark-restore = refl;
+  mark-reset = refl;
+  mark-pin = refl;
+  mark-others = refl;
   row-5 = refl;
   row-0 = refl;
   equal = no-update zeros zeros equal-0;

@@ -7,10 +7,10 @@ use Rattle.controller.specs.Memory.{cellOf, isCell, stored, loaded, advanced}
 use Rattle.controller.specs.Cycle.{written, status, carried, kept, refusal, answer, memoryAfter}
 use Rattle.jobs.specs.Header.{wordAt, wrongSizes, wrongCycles, headerOf}
 use Rattle.jobs.specs.Memory.{startMemory}
-use Rattle.jobs.specs.Text.{digit, hex, decimalUpTo, decimal, field, readLine, refusalLine, endLine}
+use Rattle.jobs.specs.Text.{digit, hex, decimalUpTo, decimal, field, markedLine, refusalLine, endLine}
 use Rattle.jobs.specs.Play.{lineOf, ending, textFrom, textBy, textOf}
 use Rattle.figures.specs.Worked.{ascii, Worked}
 
 pub worked : Worked
-unfolding classOf roomIn readBy readFirst outside cellOf isCell stored loaded advanced written status carried kept refusal answer memoryAfter wordAt wrongSizes wrongCycles headerOf startMemory digit hex decimalUpTo decimal field readLine refusalLine endLine lineOf ending textFrom textBy textOf ascii
+unfolding classOf roomIn readBy readFirst outside cellOf isCell stored loaded advanced written status carried kept refusal answer memoryAfter wordAt wrongSizes wrongCycles headerOf startMemory digit hex decimalUpTo decimal field markedLine refusalLine endLine lineOf ending textFrom textBy textOf ascii
 worked = record { size = refl; output = refl }

@@ -1,9 +1,10 @@
--- Document 01's figures marked P, in its words and order, with order 5's figures of E2, and the KS0717's: one table, one claim.
+-- Document 01's figures marked P, in its words and order, with order 5's figures of E2, order 2's of the mark, and the KS0717's: one
+-- table, one claim.
 -- `proofs/FiguresHold.antt` proves it by computing.
 -- Assumes nothing.
 use Prim.Native.Nat.{ℕ, _+_, _*_}
 use mathlib.Core.Path.{_≡_}
-use mathlib.Core.Bool.{true, false}
+use mathlib.Core.Bool.{Bool, true, false}
 use mathlib.Core.Option.{Option, some}
 use mathlib.Core.List.{List, [], _∷_, _++_}
 use lib.ListN.{length, set, replicate}
@@ -43,6 +44,14 @@ set-then-reset =
 -- what a status read answers
 abbrev pub statusOf : State → Option ℕ
 statusOf s = answer sheet0713 (s .registers) (s .memory) 2 0 .byte
+
+-- how a data read would be told: fresh is true
+abbrev pub markOf : State → Option Bool
+markOf s = answer sheet0713 (s .registers) (s .memory) 3 0 .fresh
+
+-- two data reads, and then some cycles
+abbrev pub read-then : List BusCycle → State
+read-then cycles = after ((3, 0) ∷ (3, 0) ∷ cycles)
 
 -- zeros but for one byte at page p, column c
 abbrev pub spot : ℕ → ℕ → ℕ → List ℕ → List ℕ
@@ -101,6 +110,20 @@ pub record Figures : Type 0 where
   pub reset-contrast : after set-then-reset .registers .contrast ≡ 32
   pub reset-indicator : after set-then-reset .registers .indicator ≡ false
   pub reset-value : after set-then-reset .registers .«indicator_value» ≡ 0
+  -- power-up is stale, and after a data read the next one is fresh (order 2, as all these)
+  pub mark-up : markOf up ≡ some false
+  pub mark-read : markOf (after ((3, 0) ∷ [])) ≡ some true
+  -- then a data write, a page or column instruction, E0, EE, E2 or pin low makes it stale
+  pub mark-write : markOf (read-then (byte 5 ∷ [])) ≡ some false
+  pub mark-page : markOf (read-then (instruction 0xb0 ∷ [])) ≡ some false
+  pub mark-high : markOf (read-then (instruction 0x10 ∷ [])) ≡ some false
+  pub mark-low : markOf (read-then (instruction 0x00 ∷ [])) ≡ some false
+  pub mark-save : markOf (read-then (instruction 0xe0 ∷ [])) ≡ some false
+  pub mark-restore : markOf (read-then (instruction 0xee ∷ [])) ≡ some false
+  pub mark-reset : markOf (read-then (instruction 0xe2 ∷ [])) ≡ some false
+  pub mark-pin : markOf (read-then ((4, 0) ∷ (5, 0) ∷ [])) ≡ some false
+  -- and a status read, pin high, another instruction, a page byte taken as contrast, and a refused cycle don't count
+  pub mark-others : markOf (read-then ((2, 0) ∷ (5, 0) ∷ instruction 0xe3 ∷ instruction 0x81 ∷ instruction 0xb0 ∷ instruction 0x30 ∷ [])) ≡ some true
   -- start 60, SHL 0, row 5: line 1. SHL 1, row 0: line 59
   pub row-5 : lineOf (sheet0713 .rows) 60 false 5 ≡ 1
   pub row-0 : lineOf (sheet0713 .rows) 60 true 0 ≡ 59

@@ -1,4 +1,4 @@
--- Document 01's worked job: its bytes, and the whole output that playing it gives. `proofs/WorkedHolds.antt` proves it by computing.
+-- Document 01's worked job: its bytes, and the whole output that playing it gives, with order 2's marks. `proofs/WorkedHolds.antt` proves it by computing.
 -- Assumes nothing.
 use Prim.Native.Nat.{ℕ}
 use Prim.Native.Char.{code}
@@ -22,4 +22,4 @@ job =
 
 pub record Worked : Type 0 where
   pub size : length job ≡ 26
-  pub output : textOf job ≡ ascii "r 6 81\n" ++ (ascii "r 7 7e\n" ++ (ascii "x 8 4\n" ++ ascii "end 2 7 0 0 0 0 0 0 0 32\n"))
+  pub output : textOf job ≡ ascii "r 6 81 s\n" ++ (ascii "r 7 7e f\n" ++ (ascii "x 8 4\n" ++ ascii "end 2 7 0 0 0 0 0 0 0 32\n"))

@@ -18,7 +18,7 @@ use Rattle.controller.specs.Cycle.{Outcome}
 use Rattle.controller.specs.State.{State, step}
 use Rattle.streams.specs.Length.{updateLength}
 use Rattle.jobs.specs.Header.{wordAt, cycleAt, picture2}
-use Rattle.jobs.specs.Text.{hex, decimalUpTo, decimal, field, flag, modifyFlag, readLine, refusalLine, badLine, endLine, updateLine}
+use Rattle.jobs.specs.Text.{hex, decimalUpTo, decimal, field, flag, modifyFlag, readLine, markedLine, refusalLine, badLine, endLine, updateLine}
 use Rattle.jobs.specs.Play.{byteLine, lineOf, answerAt, ending, textFrom, powerUp, textBy, textOf, longest}
 use Rattle.jobs.specs.Output.{flagFields, endingMost}
 use Rattle.jobs.specs.declared.header.Job.{Job}
@@ -71,13 +71,18 @@ module _ (i : ℕ) (h : i < 100000) where
   unfolding refusalLine
   refusal-line n l = rw (length-append, length-append) (omega (arith, field-few 4 i h, field-few 0 n (omega arith)))
 
-  byte-line : (b : Option ℕ) → length (byteLine i b) ≤ 13
-  byte-line (some b) = read-line b
-  byte-line none = omega arith
+  marked-line : (b : ℕ) (fresh : Bool) → length (markedLine i b fresh) ≤ 13
+  unfolding markedLine hex
+  marked-line b fresh = rw length-append (omega (arith, field-few 4 i h))
+
+  byte-line : (b : Option ℕ) (fresh : Option Bool) → length (byteLine i b fresh) ≤ 13
+  byte-line (some b) (some fresh) = marked-line b fresh
+  byte-line (some b) none = read-line b
+  byte-line none fresh = omega arith
 
   pub line-most : (o : Outcome) → Numbered o → length (lineOf i o) ≤ 13
   unfolding lineOf
-  line-most o n = split (eqb (o .number) 0) (λ t. rw t (byte-line (o .byte))) (λ t. rw t (refusal-line (o .number) (n .most)))
+  line-most o n = split (eqb (o .number) 0) (λ t. rw t (byte-line (o .byte) (o .fresh))) (λ t. rw t (refusal-line (o .number) (n .most)))
 
 record Most (t : List ℕ) (k : ℕ) : Type 0 where
   bound : length t ≤ k

@@ -2,21 +2,26 @@
 -- Assumes nothing.
 use Prim.Native.Nat.{ℕ, _+_, _*_, _-_, _≤_, _<_}
 use mathlib.Core.Path.{_≡_, refl, sym, ap, subst, _∙_}
+use mathlib.Core.Bool.{Bool, true, false, cond}
 use mathlib.Core.Option.{Option, none, some}
-use mathlib.Core.List.{List, _++_, append-nil}
+use mathlib.Core.List.{List, [], _++_, append-nil}
 use native.Mathlib.Nat.{zero-add}
 use native.Mathlib.Numerals.{add-one}
 use native.Mathlib.Omega.{arith}
 use lib.ListN.{length, take, drop, length-append, length-drop}
 use lib.Seq.{sets, sets-eq, length-take-le}
-use borrow.Author.Tests.{lt-ltb, le-ltb}
+use lib.Dec.{eqb}
+use borrow.Author.Tests.{lt-ltb, le-ltb, eqb-true, eqb-false}
 use Rattle.paper.specs.Refusal.{shortOutput}
 use Rattle.paper.specs.Told.{given}
 use Rattle.paper.specs.Sheet.{sheet0713}
+use Rattle.paper.proofs.Cases.{split}
 use Rattle.paper.proofs.Left.{one-fewer, none-left}
 use Rattle.registers.specs.declared.Registers.{Registers}
 use Rattle.controller.specs.State.{State, state, poweredUp, step}
-use Rattle.controller.specs.Turn.{Turn, readFlag, byteRead, IsTurn}
+use Rattle.controller.specs.Cycle.{answer}
+use Rattle.controller.specs.Turn.{Turn, readFlag, byteRead, freshFlag, IsTurn}
+use Rattle.controller.proofs.Marks.{read-tells, others-unmarked}
 use Rattle.controller.proofs.Turning.{turn-steps}
 use Rattle.streams.specs.Length.{updateLength}
 use Rattle.planner.specs.Count.{toldCount, IsLength}
@@ -24,9 +29,9 @@ use Rattle.planner.specs.declared.count.Count.{Count}
 use Rattle.planner.specs.declared.count.Count.the-variants as count
 use Rattle.planner.proofs.Exactly.{right-size}
 use Rattle.jobs.specs.Header.{cycleAt, picture2, IsHeader}
-use Rattle.jobs.specs.Text.{badLine, endLine, updateLine}
+use Rattle.jobs.specs.Text.{readLine, badLine, endLine, updateLine}
 use Rattle.jobs.specs.Memory.{startMemory}
-use Rattle.jobs.specs.Play.{lineOf, answerAt, ending, textFrom, powerUp, textBy, textOf, IsPlayed}
+use Rattle.jobs.specs.Play.{byteLine, lineOf, answerAt, ending, textFrom, powerUp, textBy, textOf, IsPlayed}
 use Rattle.jobs.specs.Output.{Put, Remains, lineBy, Turned, Holds, lineMost, endingMost}
 use Rattle.jobs.specs.declared.header.Job.{Job}
 use Rattle.jobs.specs.declared.header.Header.{Header}
@@ -36,24 +41,41 @@ use Rattle.jobs.proofs.Putting.{sets-append, put-most, put-then}
 
 -- ---- a turn
 
--- the line by the answer taken apart is the line by the answer
-line-is : (i number : ℕ) (byte : Option ℕ) (after : Option Registers)
-    → lineBy i number (readFlag byte) (byteRead byte) ≡ lineOf i (record { number = number; byte = byte; registers = after })
+-- a mark is found again in its number
+flag-again : (f : Bool) → eqb (freshFlag (some f)) 1 ≡ f
+flag-again true = refl
+flag-again false = refl
+
+-- the line of a byte without a mark
+plain-line : (i : ℕ) (byte : Option ℕ) → cond (eqb (readFlag byte) 0) [] (readLine i (byteRead byte)) ≡ byteLine i byte none
+plain-line i (some b) = refl
+plain-line i none = refl
+
+-- the line by the kind and the answer taken apart is the line by the answer: what is not refused has a mark exactly if it is a data read
+line-is : (i : ℕ) (r : Registers) (m : List ℕ) (kind value : ℕ) → let o = answer sheet0713 r m kind value in
+    lineBy i kind (o .number) (readFlag (o .byte)) (byteRead (o .byte)) (freshFlag (o .fresh)) ≡ lineOf i o
 unfolding lineOf
-line-is i number (some b) after = refl
-line-is i number none after = refl
+line-is i r m kind value =
+    let o = answer sheet0713 r m kind value in
+    split (eqb (o .number) 0)
+    (λ t. split (eqb kind 3)
+    (λ d.
+    let e : kind ≡ 3 = eqb-true kind 3 d in
+    let q = subst (λ (x : ℕ). answer sheet0713 r m x value .number ≡ 0 → (answer sheet0713 r m x value .byte ≡ some (r .holder)) × (answer sheet0713 r m x value .fresh ≡ some (r .fresh))) (sym e)
+    (read-tells sheet0713 r m value) (eqb-true (o .number) 0 t) in
+    rw (t, d, q .0, q .1, flag-again (r .fresh)) refl)
+    (λ d. rw (t, d, others-unmarked sheet0713 r m kind value (eqb-false kind 3 d)) (plain-line i (o .byte))))
+    (λ t. rw t refl)
 
 pub turned : (file : List ℕ) (i : ℕ) {r : Registers} {m m′ o o′ : List ℕ} {at at′ : ℕ} {t : Turn}
-    → IsTurn sheet0713 r m (cycleAt file i .0) (cycleAt file i .1) t m′ → Put o at (lineBy i (t .number) (t .read) (t .byte)) o′ at′ lineMost
+    → IsTurn sheet0713 r m (cycleAt file i .0) (cycleAt file i .1) t m′ → Put o at (lineBy i (cycleAt file i .0) (t .number) (t .read) (t .byte) (t .fresh)) o′ at′ lineMost
     → Turned file i (state r m) o at (state (t .registers) m′) o′ at′
-turned file i {r} {m} {o = o} {o′ = o′} {at = at} {at′ = at′} q p =
-    let a = answerAt file i (state r m) in
-    record {
-      after = turn-steps q;
-      line =
-          subst (λ (l : List ℕ). Put o at l o′ at′ lineMost)
-          (ap (λ (x : Turn). lineBy i (x .number) (x .read) (x .byte)) (q .tells) ∙ line-is i (a .number) (a .byte) (a .registers)) p;
-    }
+turned file i {r} {m} {o = o} {o′ = o′} {at = at} {at′ = at′} q p = record {
+  after = turn-steps q;
+  line =
+      subst (λ (l : List ℕ). Put o at l o′ at′ lineMost)
+      (ap (λ (x : Turn). lineBy i (cycleAt file i .0) (x .number) (x .read) (x .byte) (x .fresh)) (q .tells) ∙ line-is i r m (cycleAt file i .0) (cycleAt file i .1)) p;
+}
 
 -- ---- what remains to be put
 

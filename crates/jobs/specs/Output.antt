@@ -11,7 +11,7 @@ use Rattle.paper.specs.Sheet.{sheet0713}
 use Rattle.registers.specs.declared.Registers.{Registers}
 use Rattle.controller.specs.State.{State, step}
 use Rattle.jobs.specs.Header.{cycleAt}
-use Rattle.jobs.specs.Text.{field, newline, flag, modifyFlag, readLine, refusalLine}
+use Rattle.jobs.specs.Text.{field, newline, flag, modifyFlag, readLine, markedLine, refusalLine}
 use Rattle.jobs.specs.Play.{lineOf, answerAt}
 use Rattle.jobs.specs.declared.header.Job.{Job}
 
@@ -51,9 +51,10 @@ pub record Holds (file : List ℕ) (j : Job) : Type 0 where
   pub two : j .pictures ≤ 2
   pub whole : length file ≡ 8 + 2 * j .cycles + 1188 * j .pictures
 
--- the line of cycle i by its answer taken apart, as the code asks: a refusal's, a read's, or none
-abbrev pub lineBy : ℕ → ℕ → ℕ → ℕ → List ℕ
-lineBy i number read byte = cond (eqb number 0) (cond (eqb read 0) [] (readLine i byte)) (refusalLine i number)
+-- the line of cycle i by its kind and its answer taken apart, as the code asks: a refusal's, a data read's, a status read's, or none
+abbrev pub lineBy : ℕ → ℕ → ℕ → ℕ → ℕ → ℕ → List ℕ
+lineBy i kind number read byte fresh =
+    cond (eqb number 0) (cond (eqb kind 3) (markedLine i byte (eqb fresh 1)) (cond (eqb read 0) [] (readLine i byte))) (refusalLine i number)
 
 -- a turn: cycle i of a file from the state s, with the output o at `at`
 pub record Turned (file : List ℕ) (i : ℕ) (s : State) (o : List ℕ) (at : ℕ) (s′ : State) (o′ : List ℕ) (at′ : ℕ) : Type 0 where

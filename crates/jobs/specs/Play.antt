@@ -2,7 +2,7 @@
 -- Assumes nothing.
 use Prim.Native.Nat.{ℕ, zero, suc}
 use mathlib.Core.Path.{_≡_}
-use mathlib.Core.Bool.{cond}
+use mathlib.Core.Bool.{Bool, cond}
 use mathlib.Core.Option.{Option, none, some}
 use mathlib.Core.List.{List, [], _++_}
 use lib.ListN.{length, drop}
@@ -15,19 +15,20 @@ use Rattle.controller.specs.State.{State, poweredUp, step}
 use Rattle.streams.specs.Length.{updateLength}
 use Rattle.jobs.specs.Header.{cycleAt, picture2, headerOf}
 use Rattle.jobs.specs.Memory.{startMemory}
-use Rattle.jobs.specs.Text.{readLine, refusalLine, badLine, endLine, updateLine}
+use Rattle.jobs.specs.Text.{readLine, markedLine, refusalLine, badLine, endLine, updateLine}
 use Rattle.jobs.specs.declared.header.Job.{Job}
 use Rattle.jobs.specs.declared.play.Played.{Played}
 use Rattle.jobs.specs.declared.play.Played.the-variants.{Text, Refused}
 
--- a read has a line, whatever else was done has none
-abbrev pub byteLine : ℕ → Option ℕ → List ℕ
-byteLine i (some b) = readLine i b
-byteLine i none = []
+-- a read has a line, a data read's with its mark; whatever else was done has none
+abbrev pub byteLine : ℕ → Option ℕ → Option Bool → List ℕ
+byteLine i (some b) (some fresh) = markedLine i b fresh
+byteLine i (some b) none = readLine i b
+byteLine i none fresh = []
 
 -- the line of cycle i, by what it answered
 unfoldable pub lineOf : ℕ → Outcome → List ℕ
-lineOf i o = cond (eqb (o .number) 0) (byteLine i (o .byte)) (refusalLine i (o .number))
+lineOf i o = cond (eqb (o .number) 0) (byteLine i (o .byte) (o .fresh)) (refusalLine i (o .number))
 
 -- what cycle i of a file answers
 abbrev pub answerAt : List ℕ → ℕ → State → Outcome

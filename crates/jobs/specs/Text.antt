@@ -36,9 +36,17 @@ newline = 10 ∷ []
 abbrev pub flag : Bool → ℕ
 flag b = cond b 1 0
 
--- `r` index byte
+-- `r` index byte: a status read
 unfoldable pub readLine : ℕ → ℕ → List ℕ
 readLine i b = 114 ∷ (field i ++ (32 ∷ (hex b ++ newline)))
+
+-- f for a fresh byte, s for a stale one
+abbrev pub markLetter : Bool → ℕ
+markLetter fresh = cond fresh 102 115
+
+-- `r` index byte mark: a data read
+unfoldable pub markedLine : ℕ → ℕ → Bool → List ℕ
+markedLine i b fresh = 114 ∷ (field i ++ (32 ∷ (hex b ++ (32 ∷ markLetter fresh ∷ newline))))
 
 -- `x` index refusal
 unfoldable pub refusalLine : ℕ → ℕ → List ℕ

@@ -4,6 +4,7 @@ use crate::header::Job;
 use crate::header::read_header;
 use crate::memory::start_memory;
 use crate::text::put_bad;
+use crate::text::put_data_read;
 use crate::text::put_end;
 use crate::text::put_read;
 use crate::text::put_refusal;
@@ -36,13 +37,25 @@ struct After {
     at: usize,
 }
 
-// A cycle's line, where it has one: that of its refusal, or of the byte that it read.
-fn put_line(out: &mut [u8], at: usize, i: usize, number: u8, read: u8, byte: u8) -> usize
+// A cycle's line, where it has one: that of its refusal, or of the byte that it read, with the mark where that is a data read's.
+fn put_line(
+    out: &mut [u8],
+    at: usize,
+    i: usize,
+    kind: u8,
+    number: u8,
+    read: u8,
+    byte: u8,
+    fresh: u8,
+) -> usize
     requires { ⌜ at + lineMost ≤ textMost ⌝ }
-    ensures { λ r. ⌜ Put (now (out .entry)) at (lineBy i number read byte) (now (out .exit)) r lineMost ⌝ }
+    ensures { λ r. ⌜ Put (now (out .entry)) at (lineBy i kind number read byte fresh) (now (out .exit)) r lineMost ⌝ }
 {
     if number != 0 {
         return put_refusal(out, at, i, number);
+    }
+    if kind == 3 {
+        return put_data_read(out, at, i, byte, fresh == 1);
     }
     if read != 0 {
         return put_read(out, at, i, byte);
@@ -66,18 +79,21 @@ fn play_cycle(
     let mut number: u8 = 0;
     let mut read: u8 = 0;
     let mut byte: u8 = 0;
+    let mut fresh: u8 = 0;
+    let kind = file[8 + 2 * i];
     let next = take_turn(
         registers,
         memory,
-        file[8 + 2 * i],
+        kind,
         file[9 + 2 * i],
         &mut number,
         &mut read,
         &mut byte,
+        &mut fresh,
     );
     After {
         registers: next,
-        at: put_line(out, at, i, number, read, byte),
+        at: put_line(out, at, i, kind, number, read, byte, fresh),
     }
 }
 

@@ -5,7 +5,7 @@ use registers::Registers;
 ghost use mathlib.Core.Path.{_≡_};
 ghost use mathlib.Core.List.{[], _∷_};
 ghost use Prim.Native.Nat.{_+_, _<_, _≤_};
-ghost use Rattle.jobs.specs.Text.{digit, hex, decimalUpTo, field, flag, modifyFlag, readLine, refusalLine, badLine, endLine, updateLine};
+ghost use Rattle.jobs.specs.Text.{digit, hex, decimalUpTo, field, newline, flag, modifyFlag, readLine, markLetter, markedLine, refusalLine, badLine, endLine, updateLine};
 ghost use Rattle.jobs.specs.Output.{Put, textMost, lineMost, flagFields, lastFields};
 
 // One byte.
@@ -62,7 +62,7 @@ fn put_hex(out: &mut [u8], at: usize, byte: u8) -> usize
     put_byte(out, a, digit(b % 16))
 }
 
-// The line of a read.
+// The line of a status read.
 pub(crate) fn put_read(out: &mut [u8], at: usize, i: usize, byte: u8) -> usize
     requires { ⌜ at + 26 ≤ textMost ⌝ }
     ensures { λ r. ⌜ Put (now (out .entry)) at (readLine i byte) (now (out .exit)) r 26 ⌝ }
@@ -72,6 +72,33 @@ pub(crate) fn put_read(out: &mut [u8], at: usize, i: usize, byte: u8) -> usize
     let a3 = put_byte(out, a2, b' ');
     let a4 = put_hex(out, a3, byte);
     put_byte(out, a4, b'\n')
+}
+
+// The letter of a mark.
+fn mark_letter(fresh: bool) -> u8
+    ensures { λ r. ⌜ r ≡ markLetter fresh ⌝ }
+{
+    if fresh { b'f' } else { b's' }
+}
+
+// A space, the letter of a mark, and the end of the line.
+fn put_mark(out: &mut [u8], at: usize, fresh: bool) -> usize
+    requires { ⌜ at + 3 ≤ textMost ⌝ }
+    ensures { λ r. ⌜ Put (now (out .entry)) at (32 ∷ markLetter fresh ∷ newline) (now (out .exit)) r 3 ⌝ }
+{
+    put_letters(out, at, b' ', mark_letter(fresh), b'\n')
+}
+
+// The line of a data read.
+pub(crate) fn put_data_read(out: &mut [u8], at: usize, i: usize, byte: u8, fresh: bool) -> usize
+    requires { ⌜ at + 28 ≤ textMost ⌝ }
+    ensures { λ r. ⌜ Put (now (out .entry)) at (markedLine i byte fresh) (now (out .exit)) r 28 ⌝ }
+{
+    let a1 = put_byte(out, at, b'r');
+    let a2 = put_field(out, a1, i);
+    let a3 = put_byte(out, a2, b' ');
+    let a4 = put_hex(out, a3, byte);
+    put_mark(out, a4, fresh)
 }
 
 // The line of a refused cycle.

@@ -41,7 +41,8 @@ fn cycle_on(state: &State, memory: &mut [u8], kind: u8, value: u8) -> Answer
     cycle(unpack(state), memory, kind, value)
 }
 
-// One cycle on the bus. A byte that is read goes to `byte`, and `read` becomes 1. Refuses with 1, 2, 9, 3, 4.
+// One cycle on the bus. A byte that is read goes to `byte`, and `read` becomes 1; after a data read `fresh` is 1 where that byte is
+// fresh, 0 where it is stale. Refuses with 1, 2, 9, 3, 4.
 #[no_mangle]
 pub extern "C" fn panel_cycle(
     state: &mut State,
@@ -50,11 +51,18 @@ pub extern "C" fn panel_cycle(
     value: u8,
     read: &mut u8,
     byte: &mut u8,
+    fresh: &mut u8,
 ) -> u8
-    ensures { λ r. ⌜ CycleOut sheet0713 (now (state .entry)) (now (memory .entry)) kind value (now (read .entry)) (now (byte .entry))
-        (now (state .exit)) (now (memory .exit)) (now (read .exit)) (now (byte .exit)) r ⌝ }
+    ensures { λ r. ⌜ CycleOut sheet0713 (now (state .entry)) (now (memory .entry)) kind value (now (read .entry)) (now (byte .entry)) (now (fresh .entry))
+        (now (state .exit)) (now (memory .exit)) (now (read .exit)) (now (byte .exit)) (now (fresh .exit)) r ⌝ }
 {
-    tell_cycle(cycle_on(&*state, memory, kind, value), state, read, byte)
+    tell_cycle(
+        cycle_on(&*state, memory, kind, value),
+        state,
+        read,
+        byte,
+        fresh,
+    )
 }
 
 // The lit frame of the registers that the state stands for.

@@ -5,11 +5,12 @@
 use Prim.Native.Nat.{ℕ, _+_, _*_, _≤_, _<_}
 use mathlib.Core.Path.{_≡_, _∙_, refl, ap, sym, subst}
 use mathlib.Core.Bool.{Bool, true, false, cond}
+use mathlib.Core.Option.{none, some}
 use mathlib.Core.List.{List, [], _∷_, _++_, map}
 use native.Mathlib.Omega.{arith}
 use lib.Dec.{lit≤, ltb, eqb}
-use borrow.Author.Tests.{eqb-true, ltb-false}
-use lib.ListN.{length, take, drop}
+use borrow.Author.Tests.{eqb-true, ne-eqb, ltb-false}
+use lib.ListN.{length, take, drop, replicate}
 use Rattle.paper.specs.Refusal.{wrongSize, outsideField, shortOutput}
 use Rattle.paper.specs.Told.{given}
 use Rattle.paper.specs.Sheet.{Sensible, sheet0713, sheet0717}
@@ -20,16 +21,20 @@ use Rattle.registers.specs.Registers.{PoweredUp}
 use Rattle.registers.specs.declared.Registers.{Registers}
 use Rattle.registers.proofs.InRange.{ranged, powered-ranged}
 use Rattle.controller.specs.Run.{BusCycle}
-use Rattle.controller.specs.State.{State, state, rest, settings}
+use Rattle.controller.specs.Cycle.{answer}
+use Rattle.controller.specs.State.{State, state, run, numbers, rest, settings}
 use Rattle.controller.proofs.Chips.{chipOf, restartOf, moved, redrawn}
-use Rattle.streams.specs.Update.{updateStream}
+use Rattle.controller.proofs.Marks.{sent-stale, next-tells}
+use Rattle.streams.specs.Stretch.{Stretch, OfKind, emit}
+use Rattle.streams.specs.Update.{update, updateStream}
 use Rattle.streams.specs.Redraw.{redrawStream}
 use Rattle.streams.specs.Demand.{Recorded, Restarts}
 use Rattle.streams.proofs.Pictures.{same-refl}
 use Rattle.streams.proofs.Painting.{update-kind}
 use Rattle.streams.proofs.Length.{update-length, update-most, redraw-length}
+use Rattle.streams.proofs.Emitting.{emit-nil, cons-length, emit-no-read, emit-has-write}
 use Rattle.streams.proofs.Updating.{update-emits, update-right, update-least, update-cut, cut-accepted}
-use Rattle.streams.proofs.Redrawing.{redraw-right, redraw-cut}
+use Rattle.streams.proofs.Redrawing.{redraw-no-read, redraw-has-write, redraw-right, redraw-cut}
 use Rattle.planner.specs.Pictures.{misfit}
 use Rattle.planner.specs.Sent.{kindOf, byteOf, tooShort, Sent, redrawRefusal, IsUpdate, IsRedraw}
 use Rattle.planner.specs.Demand3.{PinHigh, Holding, played, pairs, Updates, Redraws, Demand3}
@@ -64,6 +69,15 @@ contrast-small : (W : ℕ) (wanted : List ℕ) (contrast : ℕ) (out kinds : Lis
 unfolding redrawRefusal
 contrast-small W wanted contrast out kinds e =
     omega (arith, ltb-false 63 contrast (contrast-by (misfit W wanted) (ltb 63 contrast) (tooShort (redrawStream W wanted contrast) out kinds) e))
+
+-- ---- the mark after accepted stretches of the kind: what it was where there are none, else stale
+
+emitted-mark : (k : Sheet) (s : State) (xs : List Stretch) → OfKind (k .width) xs → numbers k s (emit none xs) ≡ replicate (length (emit none xs)) 0
+    → run k s (emit none xs) .registers .fresh ≡ cond (eqb (length (emit none xs)) 0) (s .registers .fresh) false
+emitted-mark k s [] ok a = rw (emit-nil none) refl
+emitted-mark k s (x ∷ xs) ok a =
+    sent-stale k (emit none (x ∷ xs)) s a (emit-no-read none (x ∷ xs)) (emit-has-write none x xs (ok .1))
+    ∙ rw (ne-eqb (length (emit none (x ∷ xs))) 0 (λ e. omega (arith, cons-length none x xs, ok .1))) refl
 
 -- ---- a chip whose sheet makes sense
 
@@ -110,15 +124,19 @@ module _ (k : Sheet) (g : Sensible k) where
       let p = records r m recorded h in
       let u = update-right (chipOf k g) s recorded wanted p in
       let n = update-length (k .width) recorded wanted in
+      let e = update-emits (k .width) recorded wanted in
+      let mark : t .registers .fresh ≡ cond (eqb (length cycles) 0) (r .fresh) false = subst (λ (c : List BusCycle). run k s c .registers .fresh ≡ cond (eqb (length c) 0) (r .fresh) false) (sym e)
+      (emitted-mark k s (update (k .width) recorded wanted) (update-kind (k .width) recorded wanted)
+      (subst (λ (c : List BusCycle). numbers k s c ≡ replicate (length c) 0) e (u .leaves .accepted))) in
       record {
         accepted = u .leaves .accepted;
         holds = holding t wanted (u .leaves .recorded);
         memory = u .memory;
-        registers = moved (t .registers) r (u .rest) (ap (λ v. v .page) (u .exact)) (ap (λ v. v .column) (u .exact)) (ap (λ v. v .holder) (u .exact));
+        registers = moved (t .registers) r (u .rest) (ap (λ v. v .page) (u .exact)) (ap (λ v. v .column) (u .exact)) (ap (λ v. v .holder) (u .exact)) mark;
         count = n;
         most = omega (arith, n, update-most (k .width) recorded wanted);
         of-kind = update-kind (k .width) recorded wanted;
-        stream = update-emits (k .width) recorded wanted;
+        stream = e;
         least = λ xs ok e. omega (arith, n, update-least (chipOf k g) s recorded wanted p xs ok e);
         cut = λ n. update-cut (chipOf k g) s recorded wanted p n .between;
         cut-accepted = λ n. cut-accepted (chipOf k g) s recorded wanted p n;
@@ -129,6 +147,25 @@ module _ (k : Sheet) (g : Sensible k) where
       → IsUpdate (k .width) recorded wanted out kinds (Bytes n) out′ kinds′ → Updates k r m recorded wanted (pairs n kinds′ out′)
   sent-updates r m recorded wanted out kinds n out′ kinds′ h sent =
       subst (Updates k r m recorded wanted) (sym (sent-is sent .1)) (update-updates r m recorded wanted h)
+
+  -- the next data read: its mark is the one in the registers
+  next-told : (r : Registers) (m : List ℕ) → PinHigh k r m → answer k r m 3 0 .fresh ≡ some (r .fresh)
+  next-told r m h = next-tells k (state r m) (restarts r m h .restartable)
+
+  -- after an update of at least one byte it is stale: the first byte that a fitter reads back then is no data
+  pub update-stale : (r : Registers) (m recorded wanted : List ℕ) (cycles : List BusCycle) → Updates k r m recorded wanted cycles → 1 ≤ length cycles
+      → answer k (played k r m cycles .registers) (played k r m cycles .memory) 3 0 .fresh ≡ some false
+  update-stale r m recorded wanted cycles h some-byte =
+      let t = played k r m cycles in
+      next-told (t .registers) (t .memory) (h .holds .pin)
+      ∙ ap (λ a. some (a .fresh)) (h .registers) ∙ rw (ne-eqb (length cycles) 0 (λ e. omega arith)) refl
+
+  -- and after a redraw
+  pub redraw-stale : (r : Registers) (m wanted : List ℕ) (contrast : ℕ) (cycles : List BusCycle) → Redraws k r m wanted contrast cycles
+      → answer k (played k r m cycles .registers) (played k r m cycles .memory) 3 0 .fresh ≡ some false
+  redraw-stale r m wanted contrast cycles h =
+      let t = played k r m cycles in
+      next-told (t .registers) (t .memory) (h .holds .pin) ∙ ap (λ a. some (a .fresh)) (h .registers)
 
   module _ (one : 1 ≤ k .width) where
     -- the redraw, which a width of 0 would leave without data
@@ -143,7 +180,8 @@ module _ (k : Sheet) (g : Sensible k) where
           accepted = u .leaves .accepted;
           holds = holding t wanted (u .leaves .recorded);
           memory = u .memory;
-          registers = redrawn (t .registers) r (u .settings) (u .page) (u .column) (u .holder) (u .contrast) (u .indicator) (u .value) (u .leaves .recorded .ready .quiet);
+          registers = redrawn (t .registers) r (u .settings) (u .page) (u .column) (u .holder) (u .contrast) (u .indicator) (u .value) (u .leaves .recorded .ready .quiet)
+              (sent-stale k cycles s (u .leaves .accepted) (redraw-no-read (k .width) wanted contrast) (redraw-has-write (k .width) wanted contrast one));
           count = redraw-length (k .width) wanted contrast;
           cut-accepted = λ n. redraw-cut (chipOf k g) (restartOf k g) one s (restarts r m h) wanted contrast small n .accepted;
           cut-pin = λ n. pin-high (played k r m (take n cycles)) (redraw-cut (chipOf k g) (restartOf k g) one s (restarts r m h) wanted contrast small n .restarts);

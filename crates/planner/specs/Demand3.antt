@@ -7,9 +7,10 @@ use mathlib.Core.Bool.{false, cond}
 use mathlib.Core.Option.{none}
 use mathlib.Core.List.{List, [], _∷_}
 use lib.ListN.{length, take, replicate}
+use lib.Dec.{eqb}
 use Rattle.paper.specs.declared.sheet.Sheet.{Sheet}
 use Rattle.instructions.specs.declared.instruction.Awaited.the-variants as awaited
-use Rattle.registers.specs.Registers.{outside, withContrast, withIndicator, withIndicatorValue, withAwaited}
+use Rattle.registers.specs.Registers.{outside, withContrast, withIndicator, withIndicatorValue, withAwaited, withFresh}
 use Rattle.registers.specs.declared.Registers.{Registers}
 use Rattle.controller.specs.Run.{BusCycle}
 use Rattle.controller.specs.State.{State, state, run, numbers, placed, rest, indicatorAwaited}
@@ -63,10 +64,11 @@ pub record Updates (k : Sheet) (r : Registers) (m recorded wanted : List ℕ) (c
   pub accepted : Accepted k r m cycles
   -- it leaves exactly the wanted picture, so that the premises hold again with recorded := wanted
   pub holds : Holding k (played k r m cycles .registers) (played k r m cycles .memory) wanted
-  -- exactly this memory, and no register but page, column and holder moved
+  -- exactly this memory, and no register but page, column and holder moved; and a data read after it is stale, unless it has no byte
   pub memory : played k r m cycles .memory ≡ paint (k .width) m (update (k .width) recorded wanted)
   pub registers : played k r m cycles .registers
-      ≡ placed r (ended k r m (update (k .width) recorded wanted) .page) (ended k r m (update (k .width) recorded wanted) .column) (ended k r m (update (k .width) recorded wanted) .holder)
+      ≡ withFresh (placed r (ended k r m (update (k .width) recorded wanted) .page) (ended k r m (update (k .width) recorded wanted) .column) (ended k r m (update (k .width) recorded wanted) .holder))
+      (cond (eqb (length cycles) 0) (r .fresh) false)
   -- its byte count is 01's formula, never over that of all nine pages: 1,215 for 132 columns
   pub count : length cycles ≡ updateLength (k .width) recorded wanted
   pub most : length cycles ≤ 9 * (k .width + 3)
@@ -83,10 +85,11 @@ pub record Updates (k : Sheet) (r : Registers) (m recorded wanted : List ℕ) (c
 -- ---- the redraw: from whatever there is to wanted
 
 -- the registers that a redraw leaves: page 8, the column behind the last, the holder the last data byte, the contrast given, the
--- indicator off, its value 3 if it was the one awaited, nothing awaited, and all else, a saved column too, as it was
+-- indicator off, its value 3 if it was the one awaited, nothing awaited, a data read after it stale, and all else, a saved column too,
+-- as it was
 abbrev pub redrawnFrom : Sheet → Registers → List ℕ → ℕ → Registers
 redrawnFrom k r wanted contrast =
-    withAwaited (withIndicatorValue (withIndicator (withContrast (placed r 8 (k .width) (shown (k .width) wanted 8 (k .width - 1))) contrast) false) (cond (indicatorAwaited (r .awaited)) 3 (r .«indicator_value»))) awaited.Nothing
+    withFresh (withAwaited (withIndicatorValue (withIndicator (withContrast (placed r 8 (k .width) (shown (k .width) wanted 8 (k .width - 1))) contrast) false) (cond (indicatorAwaited (r .awaited)) 3 (r .«indicator_value»))) awaited.Nothing) false
 
 pub record Redraws (k : Sheet) (r : Registers) (m wanted : List ℕ) (contrast : ℕ) (cycles : List BusCycle) : Type 0 where
   pub accepted : Accepted k r m cycles

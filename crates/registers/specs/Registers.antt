@@ -17,69 +17,72 @@ column c = record { 0 = c }
 
 -- ---- the registers from their values, in the order of the struct, and with one of them set anew
 
-abbrev pub regs : ℕ → Column → ℕ → ℕ → ℕ → ℕ → Bool → Bool → Bool → Bool → Bool → Bool → Bool → ℕ → ℕ → Bool → ModifyRead → Awaited → Registers
-regs page column «start_line» contrast resistor power bias adc shl reverse entire on indicator «indicator_value» holder «pin_low» «modify_read» awaited =
-    record { page = page; column = column; «start_line» = «start_line»; contrast = contrast; resistor = resistor; power = power; bias = bias; adc = adc; shl = shl; reverse = reverse; entire = entire; on = on; indicator = indicator; «indicator_value» = «indicator_value»; holder = holder; «pin_low» = «pin_low»; «modify_read» = «modify_read»; awaited = awaited }
+abbrev pub regs : ℕ → Column → ℕ → ℕ → ℕ → ℕ → Bool → Bool → Bool → Bool → Bool → Bool → Bool → ℕ → ℕ → Bool → ModifyRead → Awaited → Bool → Registers
+regs page column «start_line» contrast resistor power bias adc shl reverse entire on indicator «indicator_value» holder «pin_low» «modify_read» awaited fresh =
+    record { page = page; column = column; «start_line» = «start_line»; contrast = contrast; resistor = resistor; power = power; bias = bias; adc = adc; shl = shl; reverse = reverse; entire = entire; on = on; indicator = indicator; «indicator_value» = «indicator_value»; holder = holder; «pin_low» = «pin_low»; «modify_read» = «modify_read»; awaited = awaited; fresh = fresh }
 
 abbrev pub withPage : Registers → ℕ → Registers
-withPage r v = regs v (r .column) (r .«start_line») (r .contrast) (r .resistor) (r .power) (r .bias) (r .adc) (r .shl) (r .reverse) (r .entire) (r .on) (r .indicator) (r .«indicator_value») (r .holder) (r .«pin_low») (r .«modify_read») (r .awaited)
+withPage r v = regs v (r .column) (r .«start_line») (r .contrast) (r .resistor) (r .power) (r .bias) (r .adc) (r .shl) (r .reverse) (r .entire) (r .on) (r .indicator) (r .«indicator_value») (r .holder) (r .«pin_low») (r .«modify_read») (r .awaited) (r .fresh)
 
 abbrev pub withColumn : Registers → Column → Registers
-withColumn r v = regs (r .page) v (r .«start_line») (r .contrast) (r .resistor) (r .power) (r .bias) (r .adc) (r .shl) (r .reverse) (r .entire) (r .on) (r .indicator) (r .«indicator_value») (r .holder) (r .«pin_low») (r .«modify_read») (r .awaited)
+withColumn r v = regs (r .page) v (r .«start_line») (r .contrast) (r .resistor) (r .power) (r .bias) (r .adc) (r .shl) (r .reverse) (r .entire) (r .on) (r .indicator) (r .«indicator_value») (r .holder) (r .«pin_low») (r .«modify_read») (r .awaited) (r .fresh)
 
 abbrev pub withStartLine : Registers → ℕ → Registers
-withStartLine r v = regs (r .page) (r .column) v (r .contrast) (r .resistor) (r .power) (r .bias) (r .adc) (r .shl) (r .reverse) (r .entire) (r .on) (r .indicator) (r .«indicator_value») (r .holder) (r .«pin_low») (r .«modify_read») (r .awaited)
+withStartLine r v = regs (r .page) (r .column) v (r .contrast) (r .resistor) (r .power) (r .bias) (r .adc) (r .shl) (r .reverse) (r .entire) (r .on) (r .indicator) (r .«indicator_value») (r .holder) (r .«pin_low») (r .«modify_read») (r .awaited) (r .fresh)
 
 abbrev pub withContrast : Registers → ℕ → Registers
-withContrast r v = regs (r .page) (r .column) (r .«start_line») v (r .resistor) (r .power) (r .bias) (r .adc) (r .shl) (r .reverse) (r .entire) (r .on) (r .indicator) (r .«indicator_value») (r .holder) (r .«pin_low») (r .«modify_read») (r .awaited)
+withContrast r v = regs (r .page) (r .column) (r .«start_line») v (r .resistor) (r .power) (r .bias) (r .adc) (r .shl) (r .reverse) (r .entire) (r .on) (r .indicator) (r .«indicator_value») (r .holder) (r .«pin_low») (r .«modify_read») (r .awaited) (r .fresh)
 
 abbrev pub withResistor : Registers → ℕ → Registers
-withResistor r v = regs (r .page) (r .column) (r .«start_line») (r .contrast) v (r .power) (r .bias) (r .adc) (r .shl) (r .reverse) (r .entire) (r .on) (r .indicator) (r .«indicator_value») (r .holder) (r .«pin_low») (r .«modify_read») (r .awaited)
+withResistor r v = regs (r .page) (r .column) (r .«start_line») (r .contrast) v (r .power) (r .bias) (r .adc) (r .shl) (r .reverse) (r .entire) (r .on) (r .indicator) (r .«indicator_value») (r .holder) (r .«pin_low») (r .«modify_read») (r .awaited) (r .fresh)
 
 abbrev pub withPower : Registers → ℕ → Registers
-withPower r v = regs (r .page) (r .column) (r .«start_line») (r .contrast) (r .resistor) v (r .bias) (r .adc) (r .shl) (r .reverse) (r .entire) (r .on) (r .indicator) (r .«indicator_value») (r .holder) (r .«pin_low») (r .«modify_read») (r .awaited)
+withPower r v = regs (r .page) (r .column) (r .«start_line») (r .contrast) (r .resistor) v (r .bias) (r .adc) (r .shl) (r .reverse) (r .entire) (r .on) (r .indicator) (r .«indicator_value») (r .holder) (r .«pin_low») (r .«modify_read») (r .awaited) (r .fresh)
 
 abbrev pub withBias : Registers → Bool → Registers
-withBias r v = regs (r .page) (r .column) (r .«start_line») (r .contrast) (r .resistor) (r .power) v (r .adc) (r .shl) (r .reverse) (r .entire) (r .on) (r .indicator) (r .«indicator_value») (r .holder) (r .«pin_low») (r .«modify_read») (r .awaited)
+withBias r v = regs (r .page) (r .column) (r .«start_line») (r .contrast) (r .resistor) (r .power) v (r .adc) (r .shl) (r .reverse) (r .entire) (r .on) (r .indicator) (r .«indicator_value») (r .holder) (r .«pin_low») (r .«modify_read») (r .awaited) (r .fresh)
 
 abbrev pub withAdc : Registers → Bool → Registers
-withAdc r v = regs (r .page) (r .column) (r .«start_line») (r .contrast) (r .resistor) (r .power) (r .bias) v (r .shl) (r .reverse) (r .entire) (r .on) (r .indicator) (r .«indicator_value») (r .holder) (r .«pin_low») (r .«modify_read») (r .awaited)
+withAdc r v = regs (r .page) (r .column) (r .«start_line») (r .contrast) (r .resistor) (r .power) (r .bias) v (r .shl) (r .reverse) (r .entire) (r .on) (r .indicator) (r .«indicator_value») (r .holder) (r .«pin_low») (r .«modify_read») (r .awaited) (r .fresh)
 
 abbrev pub withShl : Registers → Bool → Registers
-withShl r v = regs (r .page) (r .column) (r .«start_line») (r .contrast) (r .resistor) (r .power) (r .bias) (r .adc) v (r .reverse) (r .entire) (r .on) (r .indicator) (r .«indicator_value») (r .holder) (r .«pin_low») (r .«modify_read») (r .awaited)
+withShl r v = regs (r .page) (r .column) (r .«start_line») (r .contrast) (r .resistor) (r .power) (r .bias) (r .adc) v (r .reverse) (r .entire) (r .on) (r .indicator) (r .«indicator_value») (r .holder) (r .«pin_low») (r .«modify_read») (r .awaited) (r .fresh)
 
 abbrev pub withReverse : Registers → Bool → Registers
-withReverse r v = regs (r .page) (r .column) (r .«start_line») (r .contrast) (r .resistor) (r .power) (r .bias) (r .adc) (r .shl) v (r .entire) (r .on) (r .indicator) (r .«indicator_value») (r .holder) (r .«pin_low») (r .«modify_read») (r .awaited)
+withReverse r v = regs (r .page) (r .column) (r .«start_line») (r .contrast) (r .resistor) (r .power) (r .bias) (r .adc) (r .shl) v (r .entire) (r .on) (r .indicator) (r .«indicator_value») (r .holder) (r .«pin_low») (r .«modify_read») (r .awaited) (r .fresh)
 
 abbrev pub withEntire : Registers → Bool → Registers
-withEntire r v = regs (r .page) (r .column) (r .«start_line») (r .contrast) (r .resistor) (r .power) (r .bias) (r .adc) (r .shl) (r .reverse) v (r .on) (r .indicator) (r .«indicator_value») (r .holder) (r .«pin_low») (r .«modify_read») (r .awaited)
+withEntire r v = regs (r .page) (r .column) (r .«start_line») (r .contrast) (r .resistor) (r .power) (r .bias) (r .adc) (r .shl) (r .reverse) v (r .on) (r .indicator) (r .«indicator_value») (r .holder) (r .«pin_low») (r .«modify_read») (r .awaited) (r .fresh)
 
 abbrev pub withOn : Registers → Bool → Registers
-withOn r v = regs (r .page) (r .column) (r .«start_line») (r .contrast) (r .resistor) (r .power) (r .bias) (r .adc) (r .shl) (r .reverse) (r .entire) v (r .indicator) (r .«indicator_value») (r .holder) (r .«pin_low») (r .«modify_read») (r .awaited)
+withOn r v = regs (r .page) (r .column) (r .«start_line») (r .contrast) (r .resistor) (r .power) (r .bias) (r .adc) (r .shl) (r .reverse) (r .entire) v (r .indicator) (r .«indicator_value») (r .holder) (r .«pin_low») (r .«modify_read») (r .awaited) (r .fresh)
 
 abbrev pub withIndicator : Registers → Bool → Registers
-withIndicator r v = regs (r .page) (r .column) (r .«start_line») (r .contrast) (r .resistor) (r .power) (r .bias) (r .adc) (r .shl) (r .reverse) (r .entire) (r .on) v (r .«indicator_value») (r .holder) (r .«pin_low») (r .«modify_read») (r .awaited)
+withIndicator r v = regs (r .page) (r .column) (r .«start_line») (r .contrast) (r .resistor) (r .power) (r .bias) (r .adc) (r .shl) (r .reverse) (r .entire) (r .on) v (r .«indicator_value») (r .holder) (r .«pin_low») (r .«modify_read») (r .awaited) (r .fresh)
 
 abbrev pub withIndicatorValue : Registers → ℕ → Registers
-withIndicatorValue r v = regs (r .page) (r .column) (r .«start_line») (r .contrast) (r .resistor) (r .power) (r .bias) (r .adc) (r .shl) (r .reverse) (r .entire) (r .on) (r .indicator) v (r .holder) (r .«pin_low») (r .«modify_read») (r .awaited)
+withIndicatorValue r v = regs (r .page) (r .column) (r .«start_line») (r .contrast) (r .resistor) (r .power) (r .bias) (r .adc) (r .shl) (r .reverse) (r .entire) (r .on) (r .indicator) v (r .holder) (r .«pin_low») (r .«modify_read») (r .awaited) (r .fresh)
 
 abbrev pub withHolder : Registers → ℕ → Registers
-withHolder r v = regs (r .page) (r .column) (r .«start_line») (r .contrast) (r .resistor) (r .power) (r .bias) (r .adc) (r .shl) (r .reverse) (r .entire) (r .on) (r .indicator) (r .«indicator_value») v (r .«pin_low») (r .«modify_read») (r .awaited)
+withHolder r v = regs (r .page) (r .column) (r .«start_line») (r .contrast) (r .resistor) (r .power) (r .bias) (r .adc) (r .shl) (r .reverse) (r .entire) (r .on) (r .indicator) (r .«indicator_value») v (r .«pin_low») (r .«modify_read») (r .awaited) (r .fresh)
 
 abbrev pub withPinLow : Registers → Bool → Registers
-withPinLow r v = regs (r .page) (r .column) (r .«start_line») (r .contrast) (r .resistor) (r .power) (r .bias) (r .adc) (r .shl) (r .reverse) (r .entire) (r .on) (r .indicator) (r .«indicator_value») (r .holder) v (r .«modify_read») (r .awaited)
+withPinLow r v = regs (r .page) (r .column) (r .«start_line») (r .contrast) (r .resistor) (r .power) (r .bias) (r .adc) (r .shl) (r .reverse) (r .entire) (r .on) (r .indicator) (r .«indicator_value») (r .holder) v (r .«modify_read») (r .awaited) (r .fresh)
 
 abbrev pub withModifyRead : Registers → ModifyRead → Registers
-withModifyRead r v = regs (r .page) (r .column) (r .«start_line») (r .contrast) (r .resistor) (r .power) (r .bias) (r .adc) (r .shl) (r .reverse) (r .entire) (r .on) (r .indicator) (r .«indicator_value») (r .holder) (r .«pin_low») v (r .awaited)
+withModifyRead r v = regs (r .page) (r .column) (r .«start_line») (r .contrast) (r .resistor) (r .power) (r .bias) (r .adc) (r .shl) (r .reverse) (r .entire) (r .on) (r .indicator) (r .«indicator_value») (r .holder) (r .«pin_low») v (r .awaited) (r .fresh)
 
 abbrev pub withAwaited : Registers → Awaited → Registers
-withAwaited r v = regs (r .page) (r .column) (r .«start_line») (r .contrast) (r .resistor) (r .power) (r .bias) (r .adc) (r .shl) (r .reverse) (r .entire) (r .on) (r .indicator) (r .«indicator_value») (r .holder) (r .«pin_low») (r .«modify_read») v
+withAwaited r v = regs (r .page) (r .column) (r .«start_line») (r .contrast) (r .resistor) (r .power) (r .bias) (r .adc) (r .shl) (r .reverse) (r .entire) (r .on) (r .indicator) (r .«indicator_value») (r .holder) (r .«pin_low») (r .«modify_read») v (r .fresh)
+
+abbrev pub withFresh : Registers → Bool → Registers
+withFresh r v = regs (r .page) (r .column) (r .«start_line») (r .contrast) (r .resistor) (r .power) (r .bias) (r .adc) (r .shl) (r .reverse) (r .entire) (r .on) (r .indicator) (r .«indicator_value») (r .holder) (r .«pin_low») (r .«modify_read») (r .awaited) v
 
 -- ---- start values
 
 -- 0 and off, except contrast 32 and the resistor as the chip has it; with the holder and the pin as given
 abbrev pub start : Sheet → ℕ → Bool → Registers
-start k holder low = regs 0 (column 0) 0 32 (k .resistor) 0 false false false false false false false 0 holder low Off Nothing
+start k holder low = regs 0 (column 0) 0 32 (k .resistor) 0 false false false false false false false 0 holder low Off Nothing false
 
 -- power-up: pin low then high, holder 0
 pub record PoweredUp (k : Sheet) (r : Registers) : Type 0 where

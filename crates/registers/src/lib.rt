@@ -35,6 +35,8 @@ pub struct Registers {
     pub pin_low: bool,
     pub modify_read: ModifyRead,
     pub awaited: Awaited,
+    // the mark of a data read: one made now would be fresh
+    pub fresh: bool,
 }
 
 // The saved column, 0 where there is none.

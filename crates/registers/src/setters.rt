@@ -1,6 +1,6 @@
 // The registers with one of them set anew, a function for each.
 ghost use mathlib.Core.Path.{_≡_};
-ghost use Rattle.registers.specs.Registers.{withPage, withColumn, withStartLine, withContrast, withResistor, withPower, withBias, withAdc, withShl, withReverse, withEntire, withOn, withIndicator, withIndicatorValue, withHolder, withPinLow, withModifyRead, withAwaited};
+ghost use Rattle.registers.specs.Registers.{withPage, withColumn, withStartLine, withContrast, withResistor, withPower, withBias, withAdc, withShl, withReverse, withEntire, withOn, withIndicator, withIndicatorValue, withHolder, withPinLow, withModifyRead, withAwaited, withFresh};
 use crate::Column;
 use crate::ModifyRead;
 use crate::Registers;
@@ -148,4 +148,10 @@ pub fn with_modify_read(registers: Registers, modify_read: ModifyRead) -> Regist
         modify_read,
         ..registers
     }
+}
+
+pub fn with_fresh(registers: Registers, fresh: bool) -> Registers
+    ensures { λ n. ⌜ n ≡ withFresh registers fresh ⌝ }
+{
+    Registers { fresh, ..registers }
 }

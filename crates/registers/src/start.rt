@@ -33,6 +33,7 @@ pub fn started(chip: Sheet, holder: u8, low: bool) -> Registers
         pin_low: low,
         modify_read: ModifyRead::Off,
         awaited: Awaited::Nothing,
+        fresh: false,
     }
 }
 

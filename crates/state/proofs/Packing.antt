@@ -50,6 +50,7 @@ registers-again r =
       flag-again (r .«pin_low»),
       modify-again (r .«modify_read»),
       awaited-again (r .awaited),
+      flag-again (r .fresh),
     )
 
 -- ---- the bytes again
@@ -93,7 +94,8 @@ record Fit (b : List ℕ) : Type 0 where
   modify : getD b 16 0 ≤ 1
   saved : (eqb (getD b 16 0) 0 && ltb 0 (getD b 17 0)) ≡ false
   second : getD b 18 0 ≤ 2
-  spare : (k : ℕ) → k < 13 → getD b (19 + k) 0 ≡ 0
+  mark : getD b 19 0 ≤ 1
+  spare : (k : ℕ) → k < 12 → getD b (20 + k) 0 ≡ 0
 
 fit : (b : List ℕ) → unfit b ≡ false → Fit b
 unfolding unfit oddFlag spareUsed
@@ -102,18 +104,21 @@ fit b e =
     let u = ltb 2 (getD b 18 0) in
     let p = ltb 1 (getD b 15 0) in
     let m = ltb 1 (getD b 16 0) in
+    let a = ltb 1 (getD b 19 0) in
     let f = above 1 b 6 7 in
-    let e1 = or-left (f || p || m || t || u) (above 0 b 19 13) e in
-    let e2 = or-left (f || p || m || t) u e1 in
-    let e3 = or-left (f || p || m) t e2 in
-    let e4 = or-left (f || p) m e3 in
+    let e1 = or-left (f || p || m || a || t || u) (above 0 b 20 12) e in
+    let e2 = or-left (f || p || m || a || t) u e1 in
+    let e3 = or-left (f || p || m || a) t e2 in
+    let e4 = or-left (f || p || m) a e3 in
+    let e5 = or-left (f || p) m e4 in
     record {
-      flags = none-above 1 b 6 7 (or-left f p e4);
-      pin = ltb-false 1 (getD b 15 0) (or-right f p e4);
-      modify = ltb-false 1 (getD b 16 0) (or-right (f || p) m e3);
-      saved = or-right (f || p || m) t e2;
-      second = ltb-false 2 (getD b 18 0) (or-right (f || p || m || t) u e1);
-      spare = λ k h. none-left (getD b (19 + k) 0) (none-above 0 b 19 13 (or-right (f || p || m || t || u) (above 0 b 19 13) e) k h);
+      flags = none-above 1 b 6 7 (or-left f p e5);
+      pin = ltb-false 1 (getD b 15 0) (or-right f p e5);
+      modify = ltb-false 1 (getD b 16 0) (or-right (f || p) m e4);
+      saved = or-right (f || p || m || a) t e2;
+      second = ltb-false 2 (getD b 18 0) (or-right (f || p || m || a || t) u e1);
+      mark = ltb-false 1 (getD b 19 0) (or-right (f || p || m) a e3);
+      spare = λ k h. none-left (getD b (20 + k) 0) (none-above 0 b 20 12 (or-right (f || p || m || a || t || u) (above 0 b 20 12) e) k h);
     }
 
 -- a list of 32 bytes, spelled out
@@ -136,6 +141,7 @@ bytes-again b h e =
       modify-kept (getD b 16 0) (getD b 17 0) (f .modify),
       saved-kept (getD b 16 0) (getD b 17 0) (f .modify) (f .saved),
       awaited-kept (getD b 18 0) (f .second),
+      flag-kept (getD b 19 0) (f .mark),
     )
     (rw (
       f .spare 0 (omega arith),
@@ -150,7 +156,6 @@ bytes-again b h e =
       f .spare 9 (omega arith),
       f .spare 10 (omega arith),
       f .spare 11 (omega arith),
-      f .spare 12 (omega arith),
     ) at (sym (spelled b h)))
 
 -- ---- what is packed stands for registers
@@ -187,4 +192,5 @@ packed-fit r =
       modify-fits (r .«modify_read»),
       saved-fits (r .«modify_read»),
       awaited-fits (r .awaited),
+      flag-fits (r .fresh),
     )

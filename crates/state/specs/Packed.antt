@@ -43,17 +43,18 @@ awaitedOf b = cond (eqb b 1) awaited.Contrast (cond (eqb b 2) awaited.Indicator 
 -- ---- the whole state
 
 -- page 0, column 1, start line 2, contrast 3, resistor 4, power 5, bias 6, ADC 7, SHL 8, reverse 9, entire 10, on 11, indicator 12,
--- indicator value 13, holder 14, pin low 15, modify-read 16, saved column 17, awaited 18, and 19 to 31 spare
+-- indicator value 13, holder 14, pin low 15, modify-read 16, saved column 17, awaited 18, fresh 19, and 20 to 31 spare
 unfoldable pub packed : Registers → List ℕ
 packed r =
     r .page ∷ r .column .0 ∷ r .«start_line» ∷ r .contrast ∷ r .resistor ∷ r .power
     ∷ flagByte (r .bias) ∷ flagByte (r .adc) ∷ flagByte (r .shl) ∷ flagByte (r .reverse) ∷ flagByte (r .entire) ∷ flagByte (r .on)
     ∷ flagByte (r .indicator) ∷ r .«indicator_value» ∷ r .holder ∷ flagByte (r .«pin_low»)
-    ∷ modifyByte (r .«modify_read») ∷ savedByte (r .«modify_read») ∷ awaitedByte (r .awaited)
-    ∷ 0 ∷ 0 ∷ 0 ∷ 0 ∷ 0 ∷ 0 ∷ 0 ∷ 0 ∷ 0 ∷ 0 ∷ 0 ∷ 0 ∷ 0 ∷ []
+    ∷ modifyByte (r .«modify_read») ∷ savedByte (r .«modify_read») ∷ awaitedByte (r .awaited) ∷ flagByte (r .fresh)
+    ∷ 0 ∷ 0 ∷ 0 ∷ 0 ∷ 0 ∷ 0 ∷ 0 ∷ 0 ∷ 0 ∷ 0 ∷ 0 ∷ 0 ∷ []
 
 unfoldable pub unpacked : List ℕ → Registers
 unpacked b =
     regs (getD b 0 0) (column (getD b 1 0)) (getD b 2 0) (getD b 3 0) (getD b 4 0) (getD b 5 0)
     (eqb (getD b 6 0) 1) (eqb (getD b 7 0) 1) (eqb (getD b 8 0) 1) (eqb (getD b 9 0) 1) (eqb (getD b 10 0) 1) (eqb (getD b 11 0) 1)
     (eqb (getD b 12 0) 1) (getD b 13 0) (getD b 14 0) (eqb (getD b 15 0) 1) (modifyOf (getD b 16 0) (getD b 17 0)) (awaitedOf (getD b 18 0))
+    (eqb (getD b 19 0) 1)

@@ -47,6 +47,8 @@ pub(crate) const SAVED_COLUMN: usize = 17;
 
 pub(crate) const AWAITED: usize = 18;
 
+pub(crate) const FRESH: usize = 19;
+
 // A register of 0 or 1 as a byte.
 pub fn flag_byte(on: bool) -> u8
     ensures { λ b. ⌜ b ≡ flagByte on ⌝ }
@@ -134,6 +136,7 @@ pub fn pack(registers: Registers) -> State
     bytes[MODIFY_READ] = modify_byte(mode);
     bytes[SAVED_COLUMN] = saved_byte(mode);
     bytes[AWAITED] = awaited_byte(awaited);
+    bytes[FRESH] = flag_byte(registers.fresh);
     bytes
 }
 
@@ -162,5 +165,6 @@ pub fn unpack(state: &State) -> Registers
         pin_low: state[PIN_LOW] == 1,
         modify_read: mode,
         awaited,
+        fresh: state[FRESH] == 1,
     }
 }

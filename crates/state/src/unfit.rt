@@ -5,6 +5,7 @@ use crate::packed::ADC;
 use crate::packed::AWAITED;
 use crate::packed::BIAS;
 use crate::packed::ENTIRE;
+use crate::packed::FRESH;
 use crate::packed::INDICATOR;
 use crate::packed::MODIFY_READ;
 use crate::packed::ON;
@@ -29,14 +30,14 @@ fn odd_flag(state: &State) -> bool
         | (1 < state[INDICATOR])
         | (1 < state[PIN_LOW])
         | (1 < state[MODIFY_READ])
+        | (1 < state[FRESH])
 }
 
 // Whether a spare byte is not 0.
 fn spare_used(state: &State) -> bool
     ensures { λ t. ⌜ t ≡ spareUsed (now (state .entry)) ⌝ }
 {
-    (0 < state[19])
-        | (0 < state[20])
+    (0 < state[20])
         | (0 < state[21])
         | (0 < state[22])
         | (0 < state[23])

@@ -1,15 +1,19 @@
--- The cycles of a list of stretches: what goes ahead of each, how lists follow one another, and how long it all is. The page byte
--- depends only on the page of the stretch before.
+-- The cycles of a list of stretches: what goes ahead of each, how lists follow one another, how long it all is, and that they write and
+-- never read. The page byte depends only on the page of the stretch before.
 -- Assumes nothing.
-use Prim.Native.Nat.{ℕ, suc, _+_, _<_}
+use Prim.Native.Nat.{ℕ, suc, _+_, _≤_, _<_}
 use mathlib.Core.Path.{_≡_, refl}
+use mathlib.Core.Logic.{_≢_, inl, inr}
 use mathlib.Core.Bool.{true, false}
 use mathlib.Core.Option.{Option, none, some}
-use mathlib.Core.List.{List, [], _∷_, _++_, append-assoc}
+use mathlib.Core.List.{List, [], _∷_, _++_, map, append-assoc}
 use native.Mathlib.Omega.{arith}
 use lib.ListN.{length, length-append, length-map}
 use borrow.Author.Tests.{eq-eqb, ne-eqb}
-use Rattle.controller.specs.Chip.{pageCycle}
+use Rattle.paper.proofs.Cases.{chosen}
+use Rattle.controller.specs.Run.{BusCycle}
+use Rattle.controller.specs.Chip.{pageCycle, dataCycle}
+use Rattle.controller.proofs.Marks.{NoRead, HasWrite}
 use Rattle.streams.specs.Stretch.{Stretch, Place, endOf, onIt, columnBytes, address, emitBy, emit, after}
 
 -- ---- what goes ahead of a stretch
@@ -62,3 +66,41 @@ pub cons-length : (before : Option Place) (x : Stretch) (xs : List Stretch)
     → length (emit before (x ∷ xs)) ≡ length (address before x) + length (x .content) + length (emit (some (endOf x)) xs)
 unfolding emitBy
 cons-length before x xs = simp (length-append, length-map) (omega arith)
+
+-- ---- no data read is among them, and with a stretch that is not empty a data write is
+
+-- a kind below 3 is no data read's
+pub unread : (kind : ℕ) → kind < 3 → kind ≢ 3
+unread kind h e = omega arith
+
+no-read-append : (xs ys : List BusCycle) → NoRead xs → NoRead ys → NoRead (xs ++ ys)
+no-read-append [] ys h g = g
+no-read-append (x ∷ xs) ys h g = (h .0, no-read-append xs ys (h .1) g)
+
+no-read-data : (bs : List ℕ) → NoRead (map dataCycle bs)
+no-read-data [] = tt
+no-read-data (b ∷ bs) = (unread 1 (omega arith), no-read-data bs)
+
+no-read-address : (before : Option Place) (x : Stretch) → NoRead (address before x)
+unfolding address
+no-read-address before x =
+    let no = unread 0 (omega arith) in
+    chosen (λ (l : List BusCycle). NoRead (l ++ columnBytes (x .start))) (onIt before (x .page)) (no, (no, tt)) (no, (no, (no, tt)))
+
+pub emit-no-read : (before : Option Place) (xs : List Stretch) → NoRead (emit before xs)
+unfolding emitBy
+emit-no-read before [] = tt
+emit-no-read before (x ∷ xs) =
+    no-read-append (address before x) _ (no-read-address before x) (no-read-append (map dataCycle (x .content)) _ (no-read-data (x .content)) (emit-no-read (some (endOf x)) xs))
+
+write-after : (xs ys : List BusCycle) → HasWrite ys → HasWrite (xs ++ ys)
+write-after [] ys w = w
+write-after (x ∷ xs) ys w = inr (write-after xs ys w)
+
+data-has-write : (bs : List ℕ) (ys : List BusCycle) → 1 ≤ length bs → HasWrite (map dataCycle bs ++ ys)
+data-has-write [] ys h = absurd (omega arith)
+data-has-write (b ∷ bs) ys h = inl refl
+
+pub emit-has-write : (before : Option Place) (x : Stretch) (xs : List Stretch) → 1 ≤ length (x .content) → HasWrite (emit before (x ∷ xs))
+unfolding emitBy
+emit-has-write before x xs h = write-after (address before x) _ (data-has-write (x .content) _ h)

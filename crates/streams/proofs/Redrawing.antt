@@ -4,12 +4,14 @@
 -- Assumes nothing.
 use Prim.Native.Nat.{ℕ, zero, suc, _+_, _-_, _*_, _≤_, _<_}
 use mathlib.Core.Path.{_≡_, refl, _∙_, ap}
+use mathlib.Core.Logic.{_≢_, inr}
 use mathlib.Core.Option.{none}
 use mathlib.Core.List.{List, _++_}
 use native.Mathlib.Omega.{arith}
 use lib.ListN.{length, take}
 use Rattle.controller.specs.Run.{BusCycle, runBy}
 use Rattle.controller.specs.Chip.{nopCycle, offCycle, askCycle, contrastCycle, View, Chip, Restart}
+use Rattle.controller.proofs.Marks.{NoRead, HasWrite}
 use Rattle.streams.specs.Picture.{shown}
 use Rattle.streams.specs.Stretch.{emit}
 use Rattle.streams.specs.Update.{wantedBytes, updateStream}
@@ -19,6 +21,7 @@ use Rattle.streams.specs.Demand.{Recorded, Restarts, Leaves, Stopped, Re
 use Rattle.streams.proofs.Painting.{wantedBytes-length, paint-length, redraw-kind, redraw-paints}
 use Rattle.streams.proofs.Running.{Along, along-take, along-end, along-map, along-accepted, Holds, Sized, drawnAll-rest, kind-goes, kind-memory, leaves-then}
 use Rattle.streams.proofs.Updating.{update-cut, cut-accepted}
+use Rattle.streams.proofs.Emitting.{unread, emit-no-read, emit-has-write}
 
 -- ---- where nine whole pages leave the chip
 
@@ -40,6 +43,17 @@ module _ {R : Type 0} (W : ℕ) (w : List ℕ) (v : View R) where
   drawn-holder : 1 ≤ W → drawnAll W v (redraw W w) .holder ≡ shown W w 8 (W - 1)
   unfolding drawnAll drawn redraw wholePages wholePage
   drawn-holder pos = last-wanted W w 8 _ 0 W pos ∙ ap (shown W w 8) (omega arith)
+
+-- ---- it writes, and never reads
+
+module _ (W : ℕ) (w : List ℕ) (k : ℕ) where
+  pub redraw-no-read : NoRead (redrawStream W w k)
+  unfolding redrawStream
+  redraw-no-read = let no = unread 0 (omega arith) in (no, (no, (no, (no, emit-no-read none (redraw W w)))))
+
+  pub redraw-has-write : 1 ≤ W → HasWrite (redrawStream W w k)
+  unfolding redrawStream redraw wholePages wholePage
+  redraw-has-write pos = inr (inr (inr (inr (emit-has-write none (wholePage W w 0) _ (omega (arith, wantedBytes-length W w 0 0 W))))))
 
 module _ {W : ℕ} (C : Chip W) (D : Restart C) (pos : 1 ≤ W) where
   open Chip C using (State, view, Ready, step, number)

@@ -29,13 +29,13 @@ module _ {r : Registers} {m cycles left : List ℕ} {o x : Outputs} {a : Ran} (u
         ranged = stay-ranged sheet0713 sensible0713 (powered-ranged sheet0713 sensible0713 r up) g;
       }
 
-  room-for-all : length cycles ≤ 32000 → 16000 ≡ length (o .numbers) → 16000 ≡ length (o .reads) → 16000 ≡ length (o .bytes)
+  room-for-all : length cycles ≤ 32000 → 16000 ≡ length (o .numbers) → 16000 ≡ length (o .reads) → 16000 ≡ length (o .bytes) → 16000 ≡ length (o .fresh)
       → ShortOutputs (length (cyclesOf cycles)) o → ⊥
-  room-for-all h n d b s = let e = cycles-count cycles in ⊎-elim (⊎-elim (λ l. omega arith) (λ l. omega arith)) (λ l. omega arith) s
+  room-for-all h n d b f s = let e = cycles-count cycles in ⊎-elim (⊎-elim (⊎-elim (λ l. omega arith) (λ l. omega arith)) (λ l. omega arith)) (λ l. omega arith) s
 
   pub run-never : {n : ℕ} → length m ≡ 1188 → length cycles ≤ 32000 → 16000 ≡ length (o .numbers) → 16000 ≡ length (o .reads) → 16000 ≡ length (o .bytes)
-      → a ≡ Refused n → ⊥
-  run-never {n} fit h nr dr br e =
-      let g : Refused n ≡ After _ = sym e ∙ run-always f fit (ranged sheet0713 r (powered-ranged sheet0713 sensible0713 r up)) (room-for-all h nr dr br) in
+      → 16000 ≡ length (o .fresh) → a ≡ Refused n → ⊥
+  run-never {n} fit h nr dr br fr e =
+      let g : Refused n ≡ After _ = sym e ∙ run-always f fit (ranged sheet0713 r (powered-ranged sheet0713 sensible0713 r up)) (room-for-all h nr dr br fr) in
       let z : _≡_ {A = ℕ} 0 1 = cc in
       omega arith

@@ -26,6 +26,7 @@ fn from_power_up(memory: &mut [u8], cycles: &[u8]) -> Registers
     let mut numbers = room();
     let mut reads = room();
     let mut bytes = room();
+    let mut fresh = room();
     let registers = power_up();
     match run(
         registers,
@@ -34,6 +35,7 @@ fn from_power_up(memory: &mut [u8], cycles: &[u8]) -> Registers
         &mut numbers,
         &mut reads,
         &mut bytes,
+        &mut fresh,
     ) {
         Ran::After(after) => after,
         Ran::Refused(_) => registers,

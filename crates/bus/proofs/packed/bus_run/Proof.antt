@@ -18,9 +18,10 @@ bus-run-spec =
     (λ c. search needs)
     (λ c. search needs)
     (λ c. search needs)
+    (λ c. search needs)
     (λ c. record {
       answer = After _;
-      promised = rw (c .before .before .registers .given .1) at (c .before .before .before .before .before .before .before .before .before .before .before .before .run-on .ensures);
+      promised = rw (c .before .before .registers .given .1) at (c .before .before .before .before .before .before .before .before .before .before .before .before .before .before .run-on .ensures);
       number = refl;
       left = c .pack .ensures;
     })
@@ -28,9 +29,10 @@ bus-run-spec =
     (λ c. search needs)
     (λ c. search needs)
     (λ c. search needs)
+    (λ c. search needs)
     (λ c. record {
       answer = Refused _;
-      promised = rw (c .before .number .given .1) at (c .before .before .before .before .before .before .before .before .before .before .before .run-on .ensures);
+      promised = rw (c .before .number .given .1) at (c .before .before .before .before .before .before .before .before .before .before .before .before .before .run-on .ensures);
       number = refl;
       left = refl;
     }))

@@ -23,6 +23,8 @@ run-on-spec =
     (λ c. search needs)
     (λ c. search needs)
     (λ c. search needs)
+    (λ c. search needs)
     (λ c.
-    let s = c .before .before .before .before .before .before .before .before .before .before .before .before .before in
-    rw (sym (s .before .before .is-unfit .ensures) ∙ s .before .if1 .left) (rw (s .unpack .ensures) at (c .before .before .before .before .before .before .before .before .run .ensures))))
+    let ran = c .before .before .before .before .before .before .before .before .before .before in
+    let s = ran .before .before .before .before .before .before in
+    rw (sym (s .before .before .is-unfit .ensures) ∙ s .before .if1 .left) (rw (s .unpack .ensures) at (ran .run .ensures))))

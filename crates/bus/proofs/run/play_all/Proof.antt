@@ -13,24 +13,25 @@ use Rattle.bus.proofs.run.play_all.Statement.{statement}
 use Rattle.bus.proofs.run.play_all.Tie as tie
 
 abbrev Inv-loop : tie.InvT-loop
-Inv-loop memory₀ cycles numbers₀ reads₀ bytes₀ after₀ i₀ memory numbers reads bytes after i =
-    (length memory ≡ length memory₀) × (length numbers ≡ length numbers₀) × (length reads ≡ length reads₀) × (length bytes ≡ length bytes₀)
-    × Left sheet0713 (state after memory) (outputs numbers reads bytes) i cycles (state after₀ memory₀) (outputs numbers₀ reads₀ bytes₀)
+Inv-loop memory₀ cycles numbers₀ reads₀ bytes₀ fresh₀ after₀ i₀ memory numbers reads bytes fresh after i =
+    (length memory ≡ length memory₀) × (length numbers ≡ length numbers₀) × (length reads ≡ length reads₀) × (length bytes ≡ length bytes₀) × (length fresh ≡ length fresh₀)
+    × Left sheet0713 (state after memory) (outputs numbers reads bytes fresh) i cycles (state after₀ memory₀) (outputs numbers₀ reads₀ bytes₀ fresh₀)
 
 abbrev μ-loop : tie.MeasureT-loop
-μ-loop memory₀ cycles numbers₀ reads₀ bytes₀ after₀ i₀ memory numbers reads bytes after i = length cycles / 2 - i
+μ-loop memory₀ cycles numbers₀ reads₀ bytes₀ fresh₀ after₀ i₀ memory numbers reads bytes fresh after i = length cycles / 2 - i
 
 loop-again : tie.Need-loop-again Inv-loop μ-loop
 loop-again c =
-    let at-turn = c .before .before .before .before .before .before .before .before in
-    let at-test = at-turn .before .before .before .before .before .before .before in
+    let at-turn = c .before .before .before .before .before .before .before .before .before .before in
+    let at-test = at-turn .before .before .before .before .before .before .before .before in
     let kept = at-turn .turn-at .kept in
     let inv = at-test .before .loop .inv in (
       kept .1 .0 ∙ inv .0,
       kept .1 .1 .1 .1 .1 .0 ∙ inv .1,
       kept .1 .1 .1 .1 .1 .1 .0 ∙ inv .2,
       kept .1 .1 .1 .1 .1 .1 .1 .0 ∙ inv .3,
-      left-next (inv .4) (at-test .loop-test .taken) (at-turn .turn-at .ensures),
+      kept .1 .1 .1 .1 .1 .1 .1 .1 .0 ∙ inv .4,
+      left-next (inv .5) (at-test .loop-test .taken) (at-turn .turn-at .ensures),
     )
 
 pub play-all-spec : {M : Type 1} → statement M
@@ -39,18 +40,19 @@ play-all-spec =
     (tie.spec
     Inv-loop
     μ-loop
-    (λ c. (refl, refl, refl, refl, record { played = refl; put = refl }))
+    (λ c. (refl, refl, refl, refl, refl, record { played = refl; put = refl }))
     (λ c. search needs)
     (λ c. search needs)
     (λ c. search needs)
     (λ c. search needs)
     (λ c. search needs)
     (λ c κs. search needs)
-    (λ c. let at-test = c .before .before .before .before .before .before .before .before .before .before .before .before .before .before .before in omega (arith, at-test .loop-test .taken, at-test .before .before .before .before .before .before .before .good))
-    (λ c. omega (arith, c .before .before .before .before .before .before .before .before .before .before .before .before .before .before .before .loop-test .taken))
+    (λ c. let at-test = c .before .before .before .before .before .before .before .before .before .before .before .before .before .before .before .before .before .before in omega (arith, at-test .loop-test .taken, at-test .before .before .before .before .before .before .before .before .good))
+    (λ c. omega (arith, c .before .before .before .before .before .before .before .before .before .before .before .before .before .before .before .before .before .before .loop-test .taken))
     loop-again
     (λ c. c .before .loop .inv .0)
     (λ c. c .before .loop .inv .1)
     (λ c. c .before .loop .inv .2)
     (λ c. c .before .loop .inv .3)
-    (λ c. left-none (c .before .loop .inv .4) (c .loop-test .left)))
+    (λ c. c .before .loop .inv .4)
+    (λ c. left-none (c .before .loop .inv .5) (c .loop-test .left)))

@@ -12,20 +12,21 @@ use Rattle.bus.proofs.run.run.Tie as tie
 
 refused : tie.Need-returns
 refused c =
-    let a = c .before .before .before .before .before .before .before .before .args in
-    run-refused sheet0713 (a .registers) (now (a .memory)) (now (a .cycles)) (outputs (now (a .numbers)) (now (a .reads)) (now (a .bytes))) (c .before .before .ks0713 .ensures) (c .before .refusal-of .ensures) (c .if1 .taken)
+    let a = c .before .before .before .before .before .before .before .before .before .args in
+    run-refused sheet0713 (a .registers) (now (a .memory)) (now (a .cycles)) (outputs (now (a .numbers)) (now (a .reads)) (now (a .bytes)) (now (a .fresh))) (c .before .before .ks0713 .ensures) (c .before .refusal-of .ensures) (c .if1 .taken)
 
 room : tie.Need-play-all-requires
 room c κs =
-    let s = c .before .before .before .before in
-    let a = c .before .before .before .before .before .before .before .before .before .before .before .before .args in
-    has-room sheet0713 (a .registers) (now (a .memory)) (now (a .cycles)) (outputs (now (a .numbers)) (now (a .reads)) (now (a .bytes))) (s .before .before .ks0713 .ensures) (s .before .refusal-of .ensures) (s .if1 .left)
+    let s = c .before .before .before .before .before in
+    let a = s .before .before .before .before .before .before .before .before .before .args in
+    has-room sheet0713 (a .registers) (now (a .memory)) (now (a .cycles)) (outputs (now (a .numbers)) (now (a .reads)) (now (a .bytes)) (now (a .fresh))) (s .before .before .ks0713 .ensures) (s .before .refusal-of .ensures) (s .if1 .left)
 
 played : tie.Need-returns-2
 played c =
-    let s = c .before .before .before .before .before .before .before .before .before .before .before .before .before in
-    let a = c .before .before .before .before .before .before .before .before .before .before .before .before .before .before .before .before .before .before .before .before .before .args in
-    run-given sheet0713 (a .registers) (now (a .memory)) (now (a .cycles)) (outputs (now (a .numbers)) (now (a .reads)) (now (a .bytes))) (s .before .before .ks0713 .ensures) (s .before .refusal-of .ensures) (s .if1 .left) (c .before .before .before .before .before .before .before .before .play-all .ensures)
+    let all = c .before .before .before .before .before .before .before .before .before .before in
+    let s = all .before .before .before .before .before .before in
+    let a = s .before .before .before .before .before .before .before .before .before .args in
+    run-given sheet0713 (a .registers) (now (a .memory)) (now (a .cycles)) (outputs (now (a .numbers)) (now (a .reads)) (now (a .bytes)) (now (a .fresh))) (s .before .before .ks0713 .ensures) (s .before .refusal-of .ensures) (s .if1 .left) (all .play-all .ensures)
 
 pub run-spec : {M : Type 1} → statement M
 run-spec =
@@ -35,6 +36,7 @@ run-spec =
     (λ c κs. subst Sensible (sym (c .ks0713 .ensures)) sensible0713)
     refused
     room
+    (λ c. search needs)
     (λ c. search needs)
     (λ c. search needs)
     (λ c. search needs)

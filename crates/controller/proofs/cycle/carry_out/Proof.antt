@@ -16,14 +16,20 @@ carry-out-spec =
     (λ c. (search (tests, c .instruct .ensures), rw (c .before .if1 .taken)))
     (λ c κs. search needs)
     (λ c κs. omega (arith, c .before .before .before .before .before .before .before .pre .0 .wide, c .before .before .before .before .before .before .before .pre .0 .byte))
+    (λ c κs. search needs)
     (λ c. search needs)
-    (λ c. search (tests, c .after-write .ensures, c .before .before .before .store .ensures))
+    (λ c.
+    let wrote = c .before in
+    (search (tests, rw (wrote .after-write .ensures) at (c .with-fresh .ensures)), search (tests, wrote .before .before .before .store .ensures)))
     (λ c κs. search needs)
     (λ c. search (tests, c .status-of .ensures))
     (λ c κs. search needs)
     (λ c κs. omega (arith, c .before .before .before .before .before .before .before .pre .0 .wide, c .before .before .before .before .before .before .before .pre .0 .byte))
+    (λ c κs. search needs)
     (λ c. search needs)
-    (λ c. (search (tests, c .after-read .ensures, c .before .load .ensures), search tests))
+    (λ c.
+    let read = c .before in
+    (rw (← read .before .load .ensures, ← read .after-read .ensures) (search (tests, c .with-fresh2 .ensures)), search tests))
     (λ c κs. search needs)
     (λ c. search (tests, c .started .ensures))
     (λ c κs. search needs)

@@ -11,6 +11,12 @@ instruct-spec =
     (λ c κs. search needs)
     (λ c. search needs)
     (λ c κs. search needs)
+    (λ c κs. search needs)
+    (λ c κs. search needs)
     (λ c. search needs)
-    (λ c. rw (← c .before .before .before .before .read-for .ensures .tells, c .before .before .instruction .given .1, c .execute .ensures))
+    (λ c.
+    let done = c .before in
+    let ends = done .before .before in
+    let read = ends .before .before in
+    rw (← read .before .before .read-for .ensures .tells, read .instruction .given .1, c .with-fresh .ensures, done .execute .ensures, ends .ends-reading .ensures))
     (λ c. rw (← c .before .before .before .read-for .ensures .tells, c .before .number .given .1)))

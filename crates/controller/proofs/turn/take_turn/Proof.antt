@@ -8,7 +8,7 @@ use Rattle.controller.proofs.turn.take_turn.Tie as tie
 returns : tie.Need-returns
 returns c =
     let told = c .before .tell .ensures in
-    rw (c .registers-after .ensures, told .0, told .1, told .2) (turn-told (c .before .before .before .before .before .before .before .cycle .ensures))
+    rw (c .registers-after .ensures, told .0, told .1, told .2, told .3) (turn-told (c .before .before .before .before .before .before .before .before .cycle .ensures))
 
 pub take-turn-spec : {M : Type 1} → statement M
 take-turn-spec =

@@ -40,8 +40,11 @@ pack-spec =
     (λ c. search needs)
     (λ c κs. search needs)
     (λ c. search needs)
+    (λ c κs. search needs)
+    (λ c. search needs)
     (λ c.
-    let saved = c .before in
+    let second = c .before in
+    let saved = second .before in
     let modify = saved .before in
     let pin = modify .before in
     let indicator = pin .before in
@@ -52,7 +55,8 @@ pack-spec =
     let adc = shl .before in
     let bias = adc .before in
     rw (
-      c .awaited-byte .ensures,
+      c .flag-byte9 .ensures,
+      second .awaited-byte .ensures,
       saved .saved-byte .ensures,
       modify .modify-byte .ensures,
       pin .flag-byte8 .ensures,

@@ -1,7 +1,6 @@
 -- Order 2's sentence on the mark of a data read, for readers: fresh exactly when the last cycle that was a data read, a data write, a page
 -- or column instruction, E0, EE, E2 or pin low was a data read. `proofs/Marks.antt` shows that the registers' mark is this.
 -- Assumes nothing.
-use Prim.Native.Nat.{ℕ}
 use mathlib.Core.Bool.{Bool, true, false, cond}
 use mathlib.Core.Option.{Option, none, some}
 use mathlib.Core.List.{List, [], _∷_}

@@ -13,12 +13,18 @@ use registers::Registers;
 fn registers_after(registers: Registers, answer: Answer) -> Registers
     ensures { λ r. ⌜ r ≡ afterBy registers (outcome answer .registers) ⌝ }
 {
+    let mut after = registers;
     match answer {
-        Answer::Done(next) => next,
-        Answer::Status(_) => registers,
-        Answer::Read(next, _, _) => next,
-        Answer::Refused(_) => registers,
+        Answer::Done(next) => {
+            after = next;
+        }
+        Answer::Status(_) => (),
+        Answer::Read(next, _, _) => {
+            after = next;
+        }
+        Answer::Refused(_) => (),
     }
+    after
 }
 
 // What else an answer tells: its number, whether a byte was read, the byte, and whether it is fresh.

@@ -4,7 +4,7 @@
 -- Assumes nothing.
 use Prim.Native.Nat.{ℕ, zero, suc, _+_, _-_, _*_, _≤_, _<_}
 use mathlib.Core.Path.{_≡_, refl, _∙_, ap}
-use mathlib.Core.Logic.{_≢_, inr}
+use mathlib.Core.Logic.{inr}
 use mathlib.Core.Option.{none}
 use mathlib.Core.List.{List, _++_}
 use native.Mathlib.Omega.{arith}

@@ -128,7 +128,8 @@ uint8_t panel_power_up(uint8_t state[PANEL_STATE]);
  * A data read answers the holder and then loads it, so the first one after an address set answers what was there before: a dummy.
  * *fresh tells: after a data read it becomes 1 where the byte is fresh, 0 where it is stale; after any other cycle it is as it was.
  * Fresh is a byte exactly if the last cycle that was a data read, a data write, a page or column instruction, E0, EE, E2 or reset pin
- * low was a data read; a refused cycle does not count. It is then the cell that that read stood on, 0 where there is none.
+ * low was a data read; a refused cycle does not count. From power-up on it is then the cell on which that read stood, 0 where there is
+ * none.
  *
  * Who plays many cycles at once takes bus_run (bus.h). Refuses with 1 (memory), 2 (state), 9, 3, 4. */
 uint8_t panel_cycle(uint8_t state[PANEL_STATE], uint8_t *memory, size_t memory_length, uint8_t kind, uint8_t value,

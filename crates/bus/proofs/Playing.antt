@@ -46,13 +46,16 @@ pub turns-count : (k : Sheet) (s : State) (xs : List BusCycle) → length (turns
 turns-count k s [] = refl
 turns-count k s (x ∷ xs) = ap suc (turns-count k (step k s x) xs)
 
--- the cycle at index i, and those after it
-cycles-at : (bytes : List ℕ) (i : ℕ) → i < length bytes / 2
+-- the cycle at index i, and those after it; past the last one there are none
+pub cycles-at : (bytes : List ℕ) (i : ℕ) → i < length bytes / 2
     → cyclesOf (drop (2 * i) bytes) ≡ (getD bytes (2 * i) 0, getD bytes (2 * i + 1) 0) ∷ cyclesOf (drop (2 * (i + 1)) bytes)
 cycles-at bytes i h =
     let e : 2 * (i + 1) ≡ suc (suc (2 * i)) = omega arith in
     let f : 2 * i + 1 ≡ suc (2 * i) = omega arith in
     ap cyclesOf (two bytes (2 * i) (omega arith)) ∙ rw (e, f) (cycles-next (getD bytes (2 * i) 0) (getD bytes (suc (2 * i)) 0) (drop (suc (suc (2 * i))) bytes))
+
+pub cycles-end : (bytes : List ℕ) (i : ℕ) → length bytes / 2 ≤ i → cyclesOf (drop (2 * i) bytes) ≡ []
+cycles-end bytes i h = few (drop (2 * i) bytes) (rw (length-drop (2 * i) bytes) (omega arith))
 
 -- ---- a turn
 
@@ -83,5 +86,5 @@ module _ {k : Sheet} {s : State} {o : Outputs} {i : ℕ} {bytes : List ℕ} {s�
 
   pub left-none : length bytes / 2 ≤ i → Filled k s₀ (cyclesOf bytes) o₀ 0 s o
   left-none h =
-      let e : cyclesOf (drop (2 * i) bytes) ≡ [] = few (drop (2 * i) bytes) (rw (length-drop (2 * i) bytes) (omega arith)) in
+      let e = cycles-end bytes i h in
       record { after = rw e at (left .played); put = rw e at (left .put) }

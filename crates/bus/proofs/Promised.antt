@@ -3,14 +3,14 @@
 -- Assumes nothing.
 use Prim.Native.Nat.{ℕ, _*_, _<_}
 use mathlib.Core.Path.{_≡_, _∙_, refl, ap, sym, subst}
-use mathlib.Core.Logic.{_≢_, _⊎_, inl, inr, ⊎-elim}
+use mathlib.Core.Logic.{_≢_, _⊎_, inl, inr}
 use mathlib.Core.Bool.{Bool, true, false, cond, not, _||_}
 use mathlib.Core.Option.{some}
 use mathlib.Core.List.{List, [], _∷_, map}
 use native.Mathlib.Omega.{arith}
 use lib.ListN.{length}
 use lib.Dec.{T, ltb, eqb}
-use borrow.Author.Tests.{ltb-true, lt-ltb, eqb-true, eqb-false, eq-eqb, ne-eqb, not-true, not-false}
+use borrow.Author.Tests.{eqb-true, eqb-false, eq-eqb, ne-eqb, not-true, not-false}
 use Rattle.paper.specs.Refusal.{wrongSize, outOfRange, shortOutput}
 use Rattle.paper.specs.Told.{given, refused}
 use Rattle.paper.specs.Sheet.{Sensible, sheet0713}
@@ -20,8 +20,7 @@ use Rattle.paper.proofs.Sensible.{sensible0713}
 use Rattle.paper.proofs.Telling.{apart, answerOf, some-one, none-some, given-one, not-given}
 use Rattle.paper.proofs.Answering.{if-split, if-both, number-number, refused-number, Silent, nothing-given}
 use Rattle.paper.proofs.Cases.{split}
-use Rattle.paper.proofs.Either.{either, or-true}
-use Rattle.paper.proofs.Exactly.{Exactly, then, both, same-number, here, past, nowhere}
+use Rattle.paper.proofs.Exactly.{Exactly, then, both, same-number, below, or-exactly, here, past, nowhere}
 use Rattle.registers.specs.Registers.{outside, Ranged}
 use Rattle.registers.specs.declared.Registers.{Registers}
 use Rattle.registers.proofs.InRange.{ranged, ranges}
@@ -60,16 +59,6 @@ module _ {k : Sheet} {r : Registers} {m cycles : List ℕ} {o : Outputs} where
 -- one of the four outputs is shorter than so many cycles
 abbrev pub ShortOutputs : ℕ → Outputs → Type 0
 ShortOutputs n o = (((length (o .numbers) < n) ⊎ (length (o .reads) < n)) ⊎ (length (o .bytes) < n)) ⊎ (length (o .fresh) < n)
-
--- what two tests stand for, either of them
-or-exactly : (a b : Bool) {A B : Type 0} → Exactly (a ≡ true) A → Exactly (b ≡ true) B → Exactly (a || b ≡ true) (A ⊎ B)
-or-exactly a b f g = (
-  λ e. ⊎-elim (λ t. inl (f .0 t)) (λ t. inr (g .0 t)) (either a b e),
-  λ h. or-true a b (⊎-elim (λ t. inl (f .1 t)) (λ t. inr (g .1 t)) h),
-)
-
-below : (n : ℕ) {m : ℕ} → Exactly (ltb m n ≡ true) (m < n)
-below n {m} = (ltb-true m n, lt-ltb m n)
 
 short-yes : (n : ℕ) (o : Outputs) → Exactly (tooShort n o ≡ true) (ShortOutputs n o)
 unfolding tooShort

@@ -71,7 +71,7 @@ found-silent (found.At p c) = inl refl
 found-silent found.Nothing = inl refl
 found-silent (found.Refused n) = inr refl
 
-count-silent : (a : Count) → Silent (toldCount a)
+pub count-silent : (a : Count) → Silent (toldCount a)
 count-silent (count.Bytes n) = inl refl
 count-silent (count.Refused n) = inr refl
 

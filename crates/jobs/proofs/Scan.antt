@@ -1,12 +1,12 @@
 -- A job's header: the scan over its cycles a turn at a time, and what the test of its sizes says.
 -- Assumes nothing.
-use Prim.Native.Nat.{ℕ, _+_, _*_, _-_, _≤_, _<_}
+use Prim.Native.Nat.{ℕ, zero, suc, _+_, _*_, _-_, _≤_, _<_}
 use mathlib.Core.Path.{_≡_, refl, sym, ap, _∙_}
-use mathlib.Core.Bool.{Bool, true, false}
+use mathlib.Core.Bool.{Bool, true, false, _||_}
 use mathlib.Core.List.{List}
 use native.Mathlib.Numerals.{add-one}
 use borrow.Author.Tests.{ltb-false, eqb-true, not-false, lt-ltb, le-ltb, eq-eqb}
-use lib.ListN.{length}
+use lib.ListN.{length, getD}
 use Rattle.paper.specs.Refusal.{shortJob, wrongHeader, wrongCycle}
 use Rattle.paper.specs.Told.{given, refused}
 use Rattle.paper.proofs.Telling.{given-one, not-given}
@@ -34,6 +34,21 @@ module _ (file : List ℕ) (n i : ℕ) (h : i < n) where
 pub scan-end : (file : List ℕ) (n i : ℕ) → n ≤ i → wrongCycles file i (n - i) ≡ false
 unfolding wrongCycles
 scan-end file n i h = rw (none-left i n h)
+
+-- one cycle more, and none
+pub scan-more : (file : List ℕ) (i n : ℕ) → wrongCycles file i (suc n) ≡ (malformed (cycleAt file i .0) (cycleAt file i .1) || wrongCycles file (suc i) n)
+unfolding wrongCycles
+scan-more file i n = refl
+
+pub scan-none : (file : List ℕ) (i : ℕ) → wrongCycles file i zero ≡ false
+unfolding wrongCycles
+scan-none file i = refl
+
+-- ---- the header's numbers
+
+pub word-is : (file : List ℕ) (at : ℕ) → wordAt file at ≡ getD file at 0 + 256 * getD file (at + 1) 0
+unfolding wordAt
+word-is file at = refl
 
 -- ---- the sizes
 

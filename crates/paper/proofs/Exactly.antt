@@ -1,10 +1,12 @@
--- One thing exactly if another, and which of some tests in a row gives a number.
+-- One thing exactly if another, what tests stand for, and which of some tests in a row gives a number.
 -- Assumes nothing.
-use Prim.Native.Nat.{ℕ}
+use Prim.Native.Nat.{ℕ, _≤_, _<_}
 use mathlib.Core.Path.{_≡_, refl, sym, subst, _∙_}
-use mathlib.Core.Logic.{_≢_, _⊎_, inl, inr}
-use mathlib.Core.Bool.{Bool, true, false, cond}
-use lib.Dec.{T}
+use mathlib.Core.Logic.{_≢_, _⊎_, inl, inr, ⊎-elim}
+use mathlib.Core.Bool.{Bool, true, false, cond, _||_}
+use lib.Dec.{T, ltb}
+use borrow.Author.Tests.{ltb-true, ltb-false, lt-ltb, le-ltb}
+use Rattle.paper.proofs.Either.{either, or-true, neither}
 
 -- the one holds exactly if the other does
 abbrev pub Exactly : Type 0 → Type 0 → Type 0
@@ -19,7 +21,30 @@ both f g = (λ x. (f .0 (x .0), g .0 (x .1)), λ x. (f .1 (x .0), g .1 (x .1)))
 pub same-number : {m n k : ℕ} → m ≡ n → Exactly (m ≡ k) (n ≡ k)
 same-number e = (λ f. sym e ∙ f, λ f. e ∙ f)
 
+-- ---- what a test stands for
+
+pub below : (n : ℕ) {m : ℕ} → Exactly (ltb m n ≡ true) (m < n)
+below n {m} = (ltb-true m n, lt-ltb m n)
+
+pub not-below : (n : ℕ) {m : ℕ} → Exactly (ltb m n ≡ false) (n ≤ m)
+not-below n {m} = (ltb-false m n, le-ltb m n)
+
+-- two tests: either of them, and neither
+pub or-exactly : (a b : Bool) {A B : Type 0} → Exactly (a ≡ true) A → Exactly (b ≡ true) B → Exactly (a || b ≡ true) (A ⊎ B)
+or-exactly a b f g = (
+  λ e. ⊎-elim (λ t. inl (f .0 t)) (λ t. inr (g .0 t)) (either a b e),
+  λ h. or-true a b (⊎-elim (λ t. inl (f .1 t)) (λ t. inr (g .1 t)) h),
+)
+
+pub nor-exactly : (a b : Bool) {A B : Type 0} → Exactly (a ≡ false) A → Exactly (b ≡ false) B → Exactly (a || b ≡ false) (A × B)
+nor-exactly a b f g = (λ e. let n = neither a b e in (f .0 (n .0), g .0 (n .1)), λ h. rw (f .1 (h .0), g .1 (h .1)))
+
 -- ---- tests in a row: the first that holds gives its number
+
+-- two of them with one number are one test
+pub joined : (a b : Bool) (m rest : ℕ) → cond a m (cond b m rest) ≡ cond (a || b) m rest
+joined true b m rest = refl
+joined false b m rest = refl
 
 -- this one gives it
 pub here : (t : Bool) (m rest : ℕ) → rest ≢ m → Exactly (cond t m rest ≡ m) (t ≡ true)

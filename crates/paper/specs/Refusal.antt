@@ -1,4 +1,4 @@
--- The number that a refusal carries, by name, in the order of document 01's table. No refusal is 0.
+-- The number that a refusal carries, by name, in the order of document 01's table, then by order. No refusal is 0.
 -- Assumes nothing.
 use Prim.Native.Nat.{ℕ}
 
@@ -37,3 +37,7 @@ wrongHeader = 8
 -- kind above 5, or value not 0 in kinds 2 to 5
 abbrev pub wrongCycle : ℕ
 wrongCycle = 9
+
+-- order 11: a text no list of cycles has
+abbrev pub noText : ℕ
+noText = 11

@@ -1,4 +1,4 @@
-// The number that a refusal carries, by name, in the order of document 01's table.
+// The number that a refusal carries, by name, in the order of document 01's table, then by order.
 
 // A picture, memory or frame buffer is not nine pages.
 pub const WRONG_SIZE: u8 = 1;
@@ -18,3 +18,5 @@ pub const SHORT_JOB: u8 = 7;
 pub const WRONG_HEADER: u8 = 8;
 // Kind above 5, or value not 0 in kinds 2 to 5.
 pub const WRONG_CYCLE: u8 = 9;
+// Order 11: a text no list of cycles has.
+pub const NO_TEXT: u8 = 11;

@@ -44,7 +44,7 @@ count-back : (a : Count) → answerOf count.Bytes count.Refused (toldCount a) �
 count-back (count.Bytes n) = refl
 count-back (count.Refused n) = refl
 
-count-told : (a b : Count) → toldCount a ≡ toldCount b → a ≡ b
+pub count-told : (a b : Count) → toldCount a ≡ toldCount b → a ≡ b
 count-told = apart toldCount (answerOf count.Bytes count.Refused) count-back
 
 foundAt : Option Place → Found
@@ -100,7 +100,7 @@ sent-number number s out kinds a o k f = split (eqb number 0)
     (λ t. ap (λ x. x .number) (f .tells) ∙ rw t)
 
 -- a number other than 0 is a refusal's
-count-refused : (n : ℕ) (a : Count) → n ≢ 0 → Exactly (a ≡ count.Refused n) (toldCount a .number ≡ n)
+pub count-refused : (n : ℕ) (a : Count) → n ≢ 0 → Exactly (a ≡ count.Refused n) (toldCount a .number ≡ n)
 count-refused n (count.Bytes k) h = (λ e. ap (λ x. toldCount x .number) e, λ e. absurd (h (sym e)))
 count-refused n (count.Refused k) h = (λ e. ap (λ x. toldCount x .number) e, λ e. ap count.Refused e)
 

@@ -1,0 +1,14 @@
+pub mod CycleBytes
+pub mod Letters
+pub mod Starting
+pub mod Lines
+pub mod Reading
+pub mod Writing
+pub mod Answers
+pub mod Meaning
+pub mod JobFile
+pub mod Promised
+pub mod PromisedText
+pub mod PromisedLines
+pub mod PromisedJob
+pub mod PromisedC

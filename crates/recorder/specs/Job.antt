@@ -1,0 +1,58 @@
+-- A job file, written: the header, the cycles, the pictures. And what the reader of job files takes from one.
+-- Assumes nothing.
+use Prim.Native.Nat.{ℕ, zero, suc, _+_, _*_, _/_, _%_}
+use mathlib.Core.Bool.{Bool, cond, not}
+use mathlib.Core.List.{List, [], _∷_, _++_}
+use lib.ListN.{length, drop}
+use lib.Dec.{ltb, eqb}
+use Rattle.paper.specs.Refusal.{wrongSize, shortOutput, outsideField}
+use Rattle.controller.specs.Run.{BusCycle}
+use Rattle.bus.specs.Cycles.{cyclesOf}
+use Rattle.planner.specs.declared.count.Count.{Count}
+use Rattle.jobs.specs.Header.{cycleAt}
+use Rattle.jobs.specs.declared.header.Job.{Job}
+use Rattle.recorder.specs.Cycles.{anyWrong, bytesOf}
+use Rattle.recorder.specs.Written.{Written}
+
+-- a 16-bit number, low byte first
+unfoldable pub wordBytes : ℕ → List ℕ
+wordBytes n = n % 256 ∷ n / 256 % 256 ∷ []
+
+-- cycle count N, cycle offset, picture count, picture offset
+unfoldable pub headerBytes : ℕ → ℕ → List ℕ
+headerBytes n count = wordBytes n ++ (wordBytes 8 ++ (wordBytes count ++ wordBytes (8 + 2 * n)))
+
+-- the header, then the cycles, then the pictures as they are
+unfoldable pub jobBytes : List BusCycle → ℕ → List ℕ → List ℕ
+jobBytes xs count pictures = headerBytes (length xs) count ++ (bytesOf xs ++ pictures)
+
+-- so many bytes are not `count` pictures of 1,188
+unfoldable pub wrongPictures : ℕ → ℕ → Bool
+wrongPictures total count = not (eqb total (1188 * count))
+
+-- a job is refused with 1, then 6, then 5
+unfoldable pub jobRefusal : List BusCycle → ℕ → List ℕ → List ℕ → ℕ
+jobRefusal xs count pictures out =
+    cond (wrongPictures (length pictures) count) wrongSize
+    (cond (ltb 16000 (length xs)) outsideField
+    (cond (ltb 2 count) outsideField
+    (cond (anyWrong xs) outsideField
+    (cond (ltb (length out) (length (jobBytes xs count pictures))) shortOutput 0))))
+
+-- what write_job promises
+abbrev pub IsWrittenJob : List ℕ → ℕ → List ℕ → List ℕ → Count → List ℕ → Type 0
+IsWrittenJob cycles count pictures out a left =
+    Written (jobRefusal (cyclesOf cycles) count pictures out) (jobBytes (cyclesOf cycles) count pictures) out a left
+
+-- ---- a job's cycles and pictures, as the player reads them from its file
+
+-- the n cycles from cycle i on
+unfoldable pub cyclesFrom : List ℕ → ℕ → ℕ → List BusCycle
+cyclesFrom file i zero = []
+cyclesFrom file i (suc n) = cycleAt file i ∷ cyclesFrom file (suc i) n
+
+abbrev pub fileCycles : List ℕ → Job → List BusCycle
+fileCycles file j = cyclesFrom file 0 (j .cycles)
+
+abbrev pub filePictures : List ℕ → Job → List ℕ
+filePictures file j = drop (8 + 2 * j .cycles) file

@@ -38,12 +38,12 @@ bytes-cycles (x ∷ xs) = ap cyclesOf (bytes-next x xs) ∙ cycles-next (x .0) (
 
 -- the cycles of bytes are those bytes, but for a last odd one
 pub cycles-bytes : (bytes : List ℕ) → bytesOf (cyclesOf bytes) ≡ take (2 * (length bytes / 2)) bytes
-unfolding bytesOf cyclesOf
-cycles-bytes [] = refl
-cycles-bytes (kind ∷ []) = refl
+cycles-bytes [] = ap bytesOf (few [] (omega arith)) ∙ bytes-none
+cycles-bytes (kind ∷ []) = ap bytesOf (few (kind ∷ []) (omega arith)) ∙ bytes-none
 cycles-bytes (kind ∷ value ∷ rest) =
     let e : 2 * (suc (suc (length rest)) / 2) ≡ suc (suc (2 * (length rest / 2))) = omega arith in
-    rw e (ap (λ (l : List ℕ). kind ∷ value ∷ l) (cycles-bytes rest))
+    ap bytesOf (cycles-next kind value rest) ∙ bytes-next (kind, value) (cyclesOf rest)
+    ∙ rw e (ap (λ (l : List ℕ). kind ∷ value ∷ l) (cycles-bytes rest))
 
 -- ---- a wrong one among them
 

@@ -19,7 +19,8 @@ use Rattle.bus.specs.Cycles.{cyclesOf}
 use Rattle.bus.proofs.Playing.{two, few, cycles-next}
 use Rattle.jobs.specs.Header.{wordAt, cycleAt, wrongCycles, headerOf}
 use Rattle.jobs.specs.declared.header.Job.{Job}
-use Rattle.jobs.proofs.Scan.{word-is, scan-more, scan-none, Words, Sized, sizes-right, right-sizes, header-good, cyclesWrong, jobOf, Way, short, sizes, cycle, good, way}
+use Rattle.jobs.specs.declared.header.Header.the-variants.{Good}
+use Rattle.jobs.proofs.Scan.{word-is, scan-more, scan-none, Words, Sized, sizes-right, right-sizes, header-good, cyclesWrong, jobOf, Way, short, sizes, cycle, good, way, header-holds}
 use Rattle.recorder.specs.Cycles.{anyWrong, bytesOf}
 use Rattle.recorder.specs.Job.{wordBytes, headerBytes, jobBytes, wrongPictures, jobRefusal, cyclesFrom, fileCycles, filePictures}
 use Rattle.recorder.proofs.CycleBytes.{bytes-length, bytes-cycles, cycles-bytes, wrong-none, wrong-next, Bytes}
@@ -35,7 +36,7 @@ from-none : (file : List ℕ) (i : ℕ) → cyclesFrom file i zero ≡ []
 unfolding cyclesFrom
 from-none file i = refl
 
-from-count : (file : List ℕ) (i n : ℕ) → length (cyclesFrom file i n) ≡ n
+pub from-count : (file : List ℕ) (i n : ℕ) → length (cyclesFrom file i n) ≡ n
 unfolding cyclesFrom
 from-count file i zero = refl
 from-count file i (suc n) = ap suc (from-count file (suc i) n)
@@ -58,6 +59,26 @@ wrong-same file i (suc n) =
     scan-more file i n
     ∙ ap (λ (z : Bool). malformed (cycleAt file i .0) (cycleAt file i .1) || z) (wrong-same file (suc i) n)
     ∙ sym (ap anyWrong (from-next file i n) ∙ wrong-next (cycleAt file i) (cyclesFrom file (suc i) n))
+
+-- ---- a file that the reader accepts
+
+-- its cycles as they stand behind the header
+abbrev pub cyclePart : List ℕ → Job → List ℕ
+cyclePart file j = take (2 * j .cycles) (drop 8 file)
+
+pub part-cycles : (file : List ℕ) (j : Job) → headerOf file ≡ given j → cyclesOf (cyclePart file j) ≡ fileCycles file j
+part-cycles file j e = same-cycles file 0 (j .cycles) (omega (arith, header-holds file {a = Good j} (record { tells = sym e }) refl .whole))
+
+right-by : (file : List ℕ) (j : Job) → Way file → headerOf file ≡ given j → anyWrong (fileCycles file j) ≡ false
+right-by file j (short h e) f = absurd (not-given (sym e ∙ f))
+right-by file j (sizes h s e) f = absurd (not-given (sym e ∙ f))
+right-by file j (cycle h s c e) f = absurd (not-given (sym e ∙ f))
+right-by file j (good h s c e) f =
+    subst (λ (i : Job). anyWrong (fileCycles file i) ≡ false) (given-one (sym e ∙ f)) (sym (wrong-same file 0 (wordAt file 0)) ∙ c)
+
+-- none of them is wrong
+pub file-right : (file : List ℕ) (j : Job) → headerOf file ≡ given j → anyWrong (fileCycles file j) ≡ false
+file-right file j f = right-by file j (way file) f
 
 -- ---- what is written is read
 

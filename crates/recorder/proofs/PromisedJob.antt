@@ -3,7 +3,7 @@
 -- accepts it writes that file.
 -- Assumes nothing.
 use Prim.Native.Nat.{ℕ, _+_, _*_, _/_, _≤_, _<_}
-use mathlib.Core.Path.{_≡_, refl, sym, ap, subst, _∙_}
+use mathlib.Core.Path.{_≡_, sym, ap, subst, _∙_}
 use mathlib.Core.Logic.{_≢_, _⊎_, inl, inr, ⊎-elim}
 use mathlib.Core.Bool.{Bool, true, false, cond, _||_}
 use mathlib.Core.List.{List}
@@ -21,16 +21,13 @@ use Rattle.planner.specs.declared.count.Count.{Count}
 use Rattle.planner.specs.declared.count.Count.the-variants as count
 use Rattle.planner.proofs.Promised.{count-refused}
 use Rattle.jobs.specs.Header.{headerOf}
-use Rattle.jobs.specs.Output.{Holds}
 use Rattle.jobs.specs.declared.header.Job.{Job}
-use Rattle.jobs.specs.declared.header.Header.the-variants.{Good}
-use Rattle.jobs.proofs.Scan.{header-holds}
 use Rattle.recorder.specs.Cycles.{anyWrong}
 use Rattle.recorder.specs.Written.{Written}
 use Rattle.recorder.specs.Job.{jobBytes, wrongPictures, jobRefusal, IsWrittenJob, fileCycles, filePictures}
 use Rattle.recorder.proofs.CycleBytes.{Bytes}
 use Rattle.recorder.proofs.Answers.{job-length}
-use Rattle.recorder.proofs.JobFile.{JobRead, job-read, same-cycles, job-again}
+use Rattle.recorder.proofs.JobFile.{cyclePart, part-cycles, JobRead, job-read, job-again}
 use Rattle.recorder.proofs.Promised.{written-number, written-refused-leaves, written-all, WrongAmong, wrong-yes, wrong-no, size-no, size-yes}
 
 module _ (cycles : List ℕ) (p : ℕ) (pictures out : List ℕ) where
@@ -128,25 +125,15 @@ module _ (cycles : List ℕ) (p : ℕ) (pictures out : List ℕ) where
 -- ---- a file that the reader accepts, taken apart and written again
 
 module _ (file : List ℕ) (j : Job) (b : Bytes file) (accepted : headerOf file ≡ given j) (out : List ℕ) where
-  -- its cycles as they stand behind the header
-  abbrev pub cyclePart : List ℕ
-  cyclePart = take (2 * j .cycles) (drop 8 file)
+  number-is-5 : jobRefusal (cyclesOf (cyclePart file j)) (j .pictures) (filePictures file j) out ≡ cond (ltb (length out) (length file)) 5 0
+  number-is-5 = rw (part-cycles file j accepted) (job-again file j b accepted .only-short out)
 
-  part-cycles : cyclesOf cyclePart ≡ fileCycles file j
-  part-cycles = same-cycles file 0 (j .cycles) (omega (arith, holds .whole))
-    where
-      holds : Holds file j
-      holds = header-holds file {a = Good j} (record { tells = sym accepted }) refl
-
-  number-is-5 : jobRefusal (cyclesOf cyclePart) (j .pictures) (filePictures file j) out ≡ cond (ltb (length out) (length file)) 5 0
-  number-is-5 = rw part-cycles (job-again file j b accepted .only-short out)
-
-  module _ (a : Count) (left : List ℕ) (f : IsWrittenJob cyclePart (j .pictures) (filePictures file j) out a left) where
+  module _ (a : Count) (left : List ℕ) (f : IsWrittenJob (cyclePart file j) (j .pictures) (filePictures file j) out a left) where
     -- it is the same file
     pub file-long : length file ≤ length out → (a ≡ count.Bytes (length file)) × (left ≡ over file out)
     file-long h =
-        let w = written-all f (number-is-5 ∙ rw (le-ltb _ _ h) refl) in
-        rw (part-cycles, job-again file j b accepted .file-again) at w
+        let w = written-all f (number-is-5 ∙ rw (le-ltb _ _ h)) in
+        rw (part-cycles file j accepted, job-again file j b accepted .file-again) at w
 
     pub file-5 : Exactly (a ≡ count.Refused 5) (length out < length file)
     file-5 =

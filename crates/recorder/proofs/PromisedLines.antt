@@ -114,11 +114,21 @@ module _ (text out : List ℕ) where
   pub lines-not-11 : (left : List ℕ) → IsReadText text out (lines.Refused 11) left → ⊥
   lines-not-11 left f = ⊎-elim (λ e. omega arith) (λ e. omega arith) (lines-only 11 left f)
 
+  -- cycles are answered only where a text has them, they are few enough and there is room; and all of them are
+  pub lines-0 : (n : ℕ) (left : List ℕ) → IsReadText text out (lines.Cycles n) left
+      → (n ≡ length (cyclesIn text)) × (HasCycles text × ((length (cyclesIn text) ≤ 16000) × (2 * length (cyclesIn text) ≤ length out)))
+  lines-0 n left f =
+      let e : readRefusal text out ≡ 0 = sym (ap (λ t. t .number) (f .tells)) in
+      let b = past (badText text) 11 (cond many 6 (cond brief 5 0)) 0 (λ z. omega arith) .0 (sym number-is ∙ e) in
+      let m = past many 6 (cond brief 5 0) 0 (λ z. omega arith) .0 (b .1) in
+      let s = past brief 5 0 0 (λ z. omega arith) .0 (m .1) in
+      (some-one (ap (λ t. t .cycles) (f .tells) ∙ rw e refl), (good-exactly text .0 (b .0), (not-below _ .0 (m .0), not-below _ .0 (s .0))))
+
   -- what it puts out is, as a list of cycles, what the text says
   pub lines-read : (n : ℕ) (left : List ℕ) → IsReadText text out (lines.Cycles n) left → cyclesOf (take (2 * n) left) ≡ cyclesIn text
   lines-read n left f =
       let e : readRefusal text out ≡ 0 = sym (ap (λ t. t .number) (f .tells)) in
-      let m : n ≡ length (cyclesIn text) = some-one (ap (λ t. t .cycles) (f .tells) ∙ rw e refl) in
+      let m = lines-0 n left f .0 in
       let k : length (bytesOf (cyclesIn text)) ≡ 2 * n = bytes-length (cyclesIn text) ∙ rw m refl in
       ap (λ (l : List ℕ). cyclesOf (take (2 * n) l)) (f .leaves ∙ rw e refl)
       ∙ ap cyclesOf (take-at (bytesOf (cyclesIn text)) (drop (length (bytesOf (cyclesIn text))) out) (2 * n) k)

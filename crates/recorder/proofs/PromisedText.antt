@@ -2,7 +2,7 @@
 -- text, and 80,000 bytes always are; and what it writes is read as what it was given.
 -- Assumes nothing.
 use Prim.Native.Nat.{ℕ, _≤_, _<_}
-use mathlib.Core.Path.{_≡_, sym, ap, _∙_}
+use mathlib.Core.Path.{_≡_, refl, sym, ap, _∙_}
 use mathlib.Core.Logic.{_≢_, _⊎_, inl, inr, ⊎-elim}
 use mathlib.Core.Bool.{Bool, false, cond, _||_}
 use mathlib.Core.List.{List}
@@ -12,15 +12,22 @@ use lib.Dec.{ltb}
 use lib.ListN.{length, take, drop}
 use lib.Seq.{take-at}
 use Rattle.paper.specs.Over.{over}
+use Rattle.paper.specs.Told.{given}
 use Rattle.paper.proofs.Telling.{given-one}
 use Rattle.paper.proofs.Exactly.{Exactly, then, both, below, not-below, or-exactly, nor-exactly, joined, same-number, here, past, nowhere, among}
 use Rattle.bus.specs.Cycles.{cyclesOf}
 use Rattle.planner.specs.declared.count.Count.{Count}
 use Rattle.planner.specs.declared.count.Count.the-variants as count
 use Rattle.planner.proofs.Promised.{count-refused}
+use Rattle.jobs.specs.Header.{headerOf}
+use Rattle.jobs.specs.declared.header.Job.{Job}
+use Rattle.jobs.specs.declared.header.Header.the-variants.{Good}
+use Rattle.jobs.proofs.Scan.{header-holds}
 use Rattle.recorder.specs.Cycles.{anyWrong}
+use Rattle.recorder.specs.Job.{fileCycles}
 use Rattle.recorder.specs.Text.{cyclesText, textRefusal, IsWrittenText, cyclesIn, badText}
 use Rattle.recorder.proofs.CycleBytes.{Bytes, cycles-good}
+use Rattle.recorder.proofs.JobFile.{cyclePart, part-cycles, file-right, from-count}
 use Rattle.recorder.proofs.Meaning.{text-most, text-again, has-good}
 use Rattle.recorder.proofs.Promised.{written-number, written-refused-leaves, written-all, WrongAmong, wrong-yes, wrong-no}
 
@@ -87,3 +94,12 @@ module _ (cycles out : List ℕ) where
       let m : n ≡ length text = given-one (rw e at (f .tells)) in
       let whole : take n left ≡ text = ap (take n) (w .1) ∙ take-at text (drop (length text) out) n (sym m) in
       (has-good (take n left) (cyclesOf cycles) g (sym whole), ap cyclesIn whole ∙ text-again (cyclesOf cycles) g)
+
+-- the text of a job's cycles: a file that the reader accepts, and 80,000 bytes, always get it
+pub file-text : (file : List ℕ) (j : Job) (out : List ℕ) (a : Count) (left : List ℕ) → headerOf file ≡ given j → IsWrittenText (cyclePart file j) out a left → 80000 ≤ length out
+    → (a ≡ count.Bytes (length (cyclesText (fileCycles file j)))) × (left ≡ over (cyclesText (fileCycles file j)) out)
+file-text file j out a left e f h =
+    let p = part-cycles file j e in
+    let right : WrongAmong (cyclesOf (cyclePart file j)) → ⊥ = wrong-no (cyclesOf (cyclePart file j)) .0 (rw p (file-right file j e)) in
+    let few : length (cyclesOf (cyclePart file j)) ≤ 16000 = rw (p, from-count file 0 (j .cycles)) (header-holds file {a = Good j} (record { tells = sym e }) refl .few) in
+    rw p at (text-always (cyclePart file j) out a left f (few, right) h)

@@ -8,26 +8,6 @@ ghost use Rattle.jobs.specs.Output.{Put};
 ghost use Rattle.recorder.specs.Line.{letterOf, cycleText, kindBy, digitBy};
 ghost use Rattle.recorder.specs.Scan.{said, noLine, shortLine, longLine, lineFor};
 
-// The characters of the sixteen hex digits.
-const DIGITS: [u8; 16] = [
-    48,
-    49,
-    50,
-    51,
-    52,
-    53,
-    54,
-    55,
-    56,
-    57,
-    97,
-    98,
-    99,
-    100,
-    101,
-    102,
-];
-
 // The line in front of a text: the cycle that it says and how many bytes it takes, or that it says none.
 pub(crate) struct Line {
     pub bad: bool,
@@ -41,7 +21,8 @@ fn digit(d: usize) -> u8
     requires { ⌜ d < 16 ⌝ }
     ensures { λ r. ⌜ r ≡ digit d ⌝ }
 {
-    DIGITS[d]
+    let digits = b"0123456789abcdef";
+    digits[d]
 }
 
 // A byte as two hex digits.

@@ -1,4 +1,4 @@
-pub mod Cycles
+pub mod Writing
 pub mod Showing
 pub mod Sending
 pub mod Words

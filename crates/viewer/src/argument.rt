@@ -2,11 +2,12 @@
 ghost use mathlib.Core.Path.{_≡_};
 ghost use mathlib.Core.Bool.{true};
 
-// What can be asked for: the glass drawn, a PBM picture of it, or the update's cycles.
+// What can be asked for: the glass drawn, a PBM picture of it, the update's cycles, or the job's own as text.
 pub(crate) enum View {
     Glass,
     Picture,
     Stream,
+    Text,
 }
 
 // What the argument asks for, or nothing that is known.
@@ -42,6 +43,9 @@ fn named(word: &[u8]) -> Asked {
     }
     if same(word, b"stream") {
         return Asked::For(View::Stream);
+    }
+    if same(word, b"text") {
+        return Asked::For(View::Text);
     }
     Asked::Nothing
 }

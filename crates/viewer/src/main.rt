@@ -1,9 +1,10 @@
 // The viewer: reads one job from standard input, and writes what its argument asks for: the lit frame after the job's cycles,
-// drawn or as a PBM picture, or the update to the wanted picture.
+// drawn or as a PBM picture, the update to the wanted picture, or the job's cycles as text.
 mod argument;
 mod draw;
 mod play;
 mod stream;
+mod text;
 
 use crate::argument::Asked;
 use crate::argument::View;
@@ -12,16 +13,20 @@ use crate::draw::glass;
 use crate::draw::pbm;
 use crate::play::after;
 use crate::stream::stream;
+use crate::text::text;
 use input::read_all;
 use jobs::header::Header;
 use jobs::header::Job;
 use jobs::header::read_header;
 use jobs::memory::start_memory;
+ghost use mathlib.Core.Path.{_≡_};
+ghost use Rattle.paper.specs.Told.{given};
+ghost use Rattle.jobs.specs.Header.{headerOf};
 ghost use Rattle.jobs.specs.Output.{Holds};
 
 // What is asked of a good job: answers whether it could be written.
 fn view_job(view: View, file: &[u8], job: Job) -> bool
-    requires { ⌜ Holds (now file) job ⌝ }
+    requires { ⌜ Holds (now file) job × (headerOf (now file) ≡ given job) ⌝ }
 {
     let mut memory = start_memory(file, job);
     let registers = after(file, job, &mut memory);
@@ -29,6 +34,7 @@ fn view_job(view: View, file: &[u8], job: Job) -> bool
         View::Glass => glass(registers, &memory),
         View::Picture => pbm(registers, &memory),
         View::Stream => stream(file, job, &memory),
+        View::Text => text(file, job),
     }
 }
 
@@ -75,7 +81,7 @@ fn main() {
         Asked::Nothing => {
             io::write_all(
                 libc::STDERR_FILENO,
-                b"usage: viewer glass|pbm|stream < job\n",
+                b"usage: viewer glass|pbm|stream|text < job\n",
             );
         }
     }

@@ -16,4 +16,4 @@ digit-spec =
     tie.close
     (tie.spec
     (λ c. search needs)
-    (λ c. ap (λ (l : List ℕ). getD l (c .args .d) 0) (sym digits-are) ∙ at digit 16 (c .args .d) (c .pre)))
+    (λ c. ap (λ (l : List ℕ). getD l (c .before .before .args .d) 0) (sym digits-are) ∙ at digit 16 (c .before .before .args .d) (c .before .before .pre)))

@@ -7,7 +7,7 @@ use borrow.Author.Needs.{needs}
 use denote.Ref.{now}
 use Rattle.paper.specs.Sheet.{sheet0713}
 use Rattle.controller.specs.State.{poweredUp, run}
-use Rattle.viewer.proofs.Cycles.{same-cycles}
+use Rattle.recorder.proofs.JobFile.{same-cycles}
 use Rattle.viewer.proofs.play.after.Statement.{statement}
 use Rattle.viewer.proofs.play.after.Tie as tie
 

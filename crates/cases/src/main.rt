@@ -4,6 +4,7 @@ mod chip;
 mod glass_cases;
 mod ks0717;
 mod print;
+mod recording;
 mod streams;
 
 fn main() {
@@ -23,4 +24,10 @@ fn main() {
     ks0717::voltages();
     ks0717::lengths();
     ks0717::redraws();
+    recording::texts();
+    recording::long_texts();
+    recording::writings();
+    recording::jobs();
+    recording::picture_counts();
+    recording::long_jobs();
 }

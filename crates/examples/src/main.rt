@@ -1,7 +1,12 @@
-// Plays each file of data/ and writes its name and its text: the output is compared with `stdout`.
+// Plays each file of data/ and writes its name and its text, and for a good one whether it comes back when it is taken apart and written
+// again: the output is compared with `stdout`.
+mod again;
+
+use crate::again::again;
 use jobs::play::Played;
 use jobs::play::play;
 ghost use mathlib.Core.Path.{_≡_};
+ghost use Prim.Native.Nat.{_≤_};
 ghost use lib.ListN.{length};
 ghost use Rattle.jobs.specs.Play.{longest};
 
@@ -33,24 +38,50 @@ fn tell(file: &[u8], text: &mut [u8]) {
     }
 }
 
-// The name of an example, and its text.
-fn example(name: &[u8]) {
+// The name of an example, and its file: how many bytes it has, or `too long` or `missing`, and none.
+fn read_file(name: &[u8], file: &mut [u8]) -> usize
+    ensures { λ n. ⌜ n ≤ length (now (file .exit)) ⌝ }
+{
     io::write_all(1, name);
     io::write_all(1, b"\n");
     let from = os::open_read(name);
     if from < 0 {
         io::write_all(1, b"missing\n");
-        return;
+        return 0;
     }
-    let mut file = file_room();
-    let n = io::read_full(from, &mut file);
+    let n = io::read_full(from, file);
     libc::close(from);
     if n == file.len() {
         io::write_all(1, b"too long\n");
-        return;
+        return 0;
     }
+    n
+}
+
+// An example with its text: how many bytes it has.
+fn shown(name: &[u8], file: &mut [u8]) -> usize
+    ensures { λ n. ⌜ n ≤ length (now (file .exit)) ⌝ }
+{
+    let n = read_file(name, file);
     let mut text = room();
-    tell(&file[..n], &mut text);
+    tell(&file[0..n], &mut text);
+    n
+}
+
+// And whether it comes back.
+fn shown_again(name: &[u8], file: &mut [u8]) {
+    let n = shown(name, file);
+    again(&file[0..n]);
+}
+
+fn bad_example(name: &[u8]) {
+    let mut file = file_room();
+    shown(name, &mut file);
+}
+
+fn example(name: &[u8]) {
+    let mut file = file_room();
+    shown_again(name, &mut file);
 }
 
 // What the player shows.
@@ -77,18 +108,18 @@ fn good() {
 
 // Damaged files, of each kind.
 fn bad() {
-    example(b"empty.job");
-    example(b"seven-bytes.job");
-    example(b"many-cycles.job");
-    example(b"wrapped.job");
-    example(b"cycle-offset.job");
-    example(b"picture-offset.job");
-    example(b"three-pictures.job");
-    example(b"byte-short.job");
-    example(b"byte-long.job");
-    example(b"kind-six.job");
-    example(b"status-value.job");
-    example(b"pin-value.job");
+    bad_example(b"empty.job");
+    bad_example(b"seven-bytes.job");
+    bad_example(b"many-cycles.job");
+    bad_example(b"wrapped.job");
+    bad_example(b"cycle-offset.job");
+    bad_example(b"picture-offset.job");
+    bad_example(b"three-pictures.job");
+    bad_example(b"byte-short.job");
+    bad_example(b"byte-long.job");
+    bad_example(b"kind-six.job");
+    bad_example(b"status-value.job");
+    bad_example(b"pin-value.job");
 }
 
 fn main() {

@@ -1,5 +1,5 @@
-/* A second set of names for the model's calls, so that model.c can be linked twice: compiled once as it is, and once with
-   -include fast.h. */
+/* A second set of names for the model's calls, so that model.c and recording.c can be linked twice: compiled once as they are, and
+   once with -include fast.h. */
 #define model_power_up fast_power_up
 #define model_cycle fast_cycle
 #define model_read_instruction fast_read_instruction
@@ -11,3 +11,8 @@
 #define model_update_length fast_update_length
 #define model_update fast_update
 #define model_redraw fast_redraw
+#define model_write_job fast_write_job
+#define model_write_text fast_write_text
+#define model_read_text fast_read_text
+#define model_read_header fast_read_header
+#define model_play fast_play

@@ -177,6 +177,21 @@ static void second_chip(void)
     chip = KS0713;
 }
 
+/* what a panel was sent: an address, then data, over and over */
+static void recording(void)
+{
+    static const size_t lists[] = { 1000, 2000, 4000 };
+    static const char *const names[] = { "1,000 cycles", "2,000 cycles", "4,000 cycles" };
+    head("Recording");
+    for (size_t i = 0; i < MOST; i++) desk.cycles[2 * i] = i % 8 > 2, desk.cycles[2 * i + 1] = (uint8_t)(31 * i);
+    for (int k = 0; k < 3; k++) {
+        desk.laps = lists[k];
+        row("write text", names[k], cost_of(WRITE_TEXT));
+        row("read text", names[k], cost_of(READ_TEXT));
+        row("write job, two pictures", names[k], cost_of(WRITE_JOB));
+    }
+}
+
 static void growth(void)
 {
     static const size_t columns[] = { 0, 1, 2, 4, 8, 16, 32, 64, 132, 264, 528, 1188 };
@@ -221,6 +236,7 @@ int main(int argc, char **argv)
     lists();
     through_state();
     second_chip();
+    recording();
     growth();
     ways();
     return 0;

@@ -5,6 +5,9 @@ struct desk desk;
 /* the model's calls once more, under the names of fast.h and fast0717.h */
 MODEL_CALLS(fast)
 MODEL_CALLS(fast0717)
+uint8_t fast_write_job(const uint8_t *, size_t, size_t, const uint8_t *, size_t, uint8_t *, size_t, size_t *);
+uint8_t fast_write_text(const uint8_t *, size_t, uint8_t *, size_t, size_t *);
+uint8_t fast_read_text(const uint8_t *, size_t, uint8_t *, size_t, size_t *, size_t *);
 
 #define STREAMS(side, prefix, n) \
     static void side##_update(void) { prefix##_update(desk.recorded, n, desk.wanted, n, desk.out, desk.room, desk.kinds, desk.room, &desk.count); } \
@@ -21,7 +24,14 @@ MODEL_CALLS(fast0717)
     static void side##_frame(void) { prefix##_frame(registers, desk.memory, n, desk.frame, n); } \
     static void side##_power(void) { prefix##_power_state(registers, &desk.power); }
 
-#define CALLS_OF(side, list) { side##_update, side##_length, side##_first, side##_redraw, side##_cycle, list, side##_frame, side##_read, side##_reads, side##_write, side##_power, side##_v0 }
+#define CALLS_OF(side, list, ...) { side##_update, side##_length, side##_first, side##_redraw, side##_cycle, list, side##_frame, side##_read, side##_reads, side##_write, side##_power, side##_v0, __VA_ARGS__ }
+
+/* a list as text, the text read again, and the list as a job with two pictures */
+#define RECORDING(side, prefix) \
+    static void side##_write_text(void) { prefix##_write_text(desk.cycles, 2 * desk.laps, desk.text, sizeof desk.text, &desk.length); } \
+    static void side##_read_text(void) { prefix##_read_text(desk.text, desk.length, desk.list, sizeof desk.list, &desk.count, &desk.line); } \
+    static void side##_write_job(void) { prefix##_write_job(desk.cycles, 2 * desk.laps, 2, desk.pictures, sizeof desk.pictures, desk.job, sizeof desk.job, &desk.count); }
+#define RECORDS(side) side##_write_text, side##_read_text, side##_write_job
 
 /* a list of cycles with each one's answer: the library unpacks its state once, the model's struct is at hand */
 static void ours_list(void)
@@ -46,6 +56,9 @@ LIST_OF(o2, model)
 STREAMS(o3, fast, N)
 CHIP(o3, fast, &desk.registers, N)
 LIST_OF(o3, fast)
+RECORDING(ours, recorder)
+RECORDING(o2, model)
+RECORDING(o3, fast)
 
 STREAMS(ours0717, panel0717, N0717)
 CHIP(ours0717, panel0717, desk.state, N0717)
@@ -55,6 +68,6 @@ STREAMS(o30717, fast0717, N0717)
 CHIP(o30717, fast0717, &desk.registers, N0717)
 
 const struct side sides[CHIPS][SIDES] = {
-    { { "library", CALLS_OF(ours, ours_list) }, { "C -O2", CALLS_OF(o2, o2_list) }, { "C -O3 restrict", CALLS_OF(o3, o3_list) } },
-    { { "library", CALLS_OF(ours0717, 0) }, { "C -O2", CALLS_OF(o20717, 0) }, { "C -O3 restrict", CALLS_OF(o30717, 0) } },
+    { { "library", CALLS_OF(ours, ours_list, RECORDS(ours)) }, { "C -O2", CALLS_OF(o2, o2_list, RECORDS(o2)) }, { "C -O3 restrict", CALLS_OF(o3, o3_list, RECORDS(o3)) } },
+    { { "library", CALLS_OF(ours0717, 0, 0) }, { "C -O2", CALLS_OF(o20717, 0, 0) }, { "C -O3 restrict", CALLS_OF(o30717, 0, 0) } },
 };

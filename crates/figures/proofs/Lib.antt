@@ -1,2 +1,3 @@
 pub mod FiguresHold
 pub mod WorkedHolds
+pub mod RecordedHolds

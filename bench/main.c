@@ -180,8 +180,8 @@ static void second_chip(void)
 /* what a panel was sent: an address, then data, over and over */
 static void recording(void)
 {
-    static const size_t lists[] = { 1000, 2000, 4000 };
-    static const char *const names[] = { "1,000 cycles", "2,000 cycles", "4,000 cycles" };
+    static const size_t lists[] = { 250, 500, 1000 };
+    static const char *const names[] = { "250 cycles", "500 cycles", "1,000 cycles" };
     head("Recording");
     for (size_t i = 0; i < MOST; i++) desk.cycles[2 * i] = i % 8 > 2, desk.cycles[2 * i + 1] = (uint8_t)(31 * i);
     for (int k = 0; k < 3; k++) {

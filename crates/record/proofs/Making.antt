@@ -3,17 +3,15 @@
 use Prim.Native.Nat.{ℕ, _+_, _*_, _≤_}
 use mathlib.Core.Path.{_≡_, refl, sym, ap, subst, _∙_}
 use mathlib.Core.Logic.{⊎-elim}
-use mathlib.Core.Bool.{true, false}
 use mathlib.Core.List.{List}
 use native.Mathlib.Omega.{arith}
 use borrow.Author.Tests.{lt-ltb, le-ltb}
-use lib.Dec.{ltb}
 use lib.ListN.{length, take, drop, length-append}
 use lib.Seq.{take-at}
 use Rattle.bus.specs.Cycles.{cyclesOf}
 use Rattle.planner.specs.declared.count.Count.{Count}
 use Rattle.planner.specs.declared.count.Count.the-variants.{Bytes, Refused}
-use Rattle.recorder.specs.Text.{cyclesIn, badText, IsReadText}
+use Rattle.recorder.specs.Text.{cyclesIn, IsReadText}
 use Rattle.recorder.specs.Job.{jobBytes, IsWrittenJob}
 use Rattle.recorder.specs.declared.text.Lines.the-variants as lines
 use Rattle.recorder.proofs.CycleBytes.{good-right}
@@ -22,7 +20,6 @@ use Rattle.recorder.proofs.Promised.{written-number, written-all, wrong-no}
 use Rattle.recorder.proofs.PromisedLines.{lines-11, lines-6, lines-5, lines-only, lines-0, lines-read}
 use Rattle.recorder.proofs.PromisedJob.{job-always}
 use Rattle.record.specs.Made.{madeOf, GoodCycles, FullRoom, IsMade}
-use Rattle.record.specs.declared.make.Made.{Made}
 use Rattle.record.specs.declared.make.Made.the-variants.{Job, BadLine, TooMany}
 
 -- ---- a job of good cycles is never refused

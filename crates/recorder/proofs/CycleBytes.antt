@@ -2,11 +2,11 @@
 -- Assumes nothing.
 use Prim.Native.Nat.{ℕ, suc, _+_, _*_, _/_, _≤_, _<_}
 use mathlib.Core.Path.{_≡_, refl, sym, ap, subst, _∙_}
-use mathlib.Core.Bool.{true, false, not, _||_, _&&_}
+use mathlib.Core.Bool.{true, false, _||_}
 use mathlib.Core.List.{List, [], _∷_}
 use native.Mathlib.Omega.{arith}
-use borrow.Author.Tests.{lt-ltb, le-ltb, ltb-true, not-true}
-use lib.Dec.{T, ltb}
+use borrow.Author.Tests.{lt-ltb, ltb-true}
+use lib.Dec.{T}
 use lib.ListN.{length, getD, take, drop}
 use Rattle.controller.specs.Cycle.{malformed}
 use Rattle.controller.specs.Run.{BusCycle}

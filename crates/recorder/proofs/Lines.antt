@@ -7,13 +7,11 @@ use mathlib.Core.Logic.{_≢_}
 use mathlib.Core.Bool.{Bool, true, false, cond, not, _||_, _&&_}
 use mathlib.Core.List.{List, [], _∷_, _++_}
 use native.Mathlib.Omega.{arith}
-use borrow.Author.Tests.{lt-ltb, le-ltb, ltb-true, ltb-false, eqb-true, eq-eqb}
+use borrow.Author.Tests.{lt-ltb, le-ltb, ltb-false, eq-eqb}
 use lib.Dec.{T, ltb, eqb}
 use lib.ListN.{length, getD, drop}
-use lib.Seq.{getD-drop, drop-drop}
-use Rattle.controller.specs.Cycle.{malformed}
 use Rattle.controller.specs.Run.{BusCycle}
-use Rattle.paper.proofs.Cases.{split, less}
+use Rattle.paper.proofs.Cases.{less}
 use Rattle.paper.proofs.Either.{neither}
 use Rattle.jobs.specs.Text.{digit}
 use Rattle.jobs.proofs.Digits.{hex-is}
@@ -117,7 +115,7 @@ cond-both : (a b : Bool) (x y : Line) → cond (not a || not b) x y ≡ cond (a 
 cond-both true b x y = cond-not b x y
 cond-both false b x y = refl
 
--- the line's bytes, one by one: what follows from what a byte is, and what from it being another
+-- where its other bytes are right, a short line stands there exactly if the newline does, and a long one if the space and the newline do
 two : (t : List ℕ) (a b : ℕ) → a ≢ 0 → b ≢ 0 → getD t 0 0 ≡ a → startsWith (a ∷ b ∷ []) t ≡ eqb (getD t 1 0) b
 two t a b h k e =
     starts-at t 0 a (b ∷ []) h
@@ -127,7 +125,18 @@ five : (t : List ℕ) (a b c d e : ℕ) → a ≢ 0 → b ≢ 0 → c ≢ 0 → 
     → startsWith (a ∷ b ∷ c ∷ d ∷ e ∷ []) t ≡ (eqb (getD t 1 0) b && eqb (getD t 4 0) e)
 five t a b c d e ha hb hc hd he ea ec ed =
     starts-at t 0 a (b ∷ c ∷ d ∷ e ∷ []) ha
-    ∙ rw (eq-eqb (getD t 0 0) a ea, starts-at t 1 b (c ∷ d ∷ e ∷ []) hb, starts-at t 2 c (d ∷ e ∷ []) hc, eq-eqb (getD t 2 0) c ec, starts-at t 3 d (e ∷ []) hd, eq-eqb (getD t 3 0) d ed, starts-at t 4 e [] he, starts-none, and-true) refl
+    ∙ rw (
+      eq-eqb (getD t 0 0) a ea,
+      starts-at t 1 b (c ∷ d ∷ e ∷ []) hb,
+      starts-at t 2 c (d ∷ e ∷ []) hc,
+      eq-eqb (getD t 2 0) c ec,
+      starts-at t 3 d (e ∷ []) hd,
+      eq-eqb (getD t 3 0) d ed,
+      starts-at t 4 e [] he,
+      starts-none,
+      and-true,
+    )
+    refl
 
 module _ (t : List ℕ) where
   abbrev k : ℕ

@@ -4,17 +4,16 @@
 use Prim.Native.Nat.{ℕ, _*_}
 use mathlib.Core.Path.{_≡_, refl, sym, ap, subst, _∙_}
 use mathlib.Core.Logic.{_≢_, inl, inr, ⊎-elim}
-use mathlib.Core.Bool.{Bool, true, false, cond}
+use mathlib.Core.Bool.{Bool, true, false}
 use mathlib.Core.Option.{Option, none, some}
 use mathlib.Core.List.{List, [], _∷_}
-use lib.Dec.{T, eqb}
+use lib.Dec.{T}
 use lib.ListN.{length}
-use Rattle.paper.specs.Refusal.{noText}
 use Rattle.paper.specs.Over.{over}
 use Rattle.paper.proofs.Cases.{split}
 use Rattle.paper.proofs.Either.{either, or-true}
 use Rattle.paper.proofs.Exactly.{Exactly}
-use Rattle.paper.proofs.Telling.{apart, none-some}
+use Rattle.paper.proofs.Telling.{apart}
 use Rattle.paper.proofs.Answering.{number-number, refused-number}
 use Rattle.controller.specs.Cycle.{malformed}
 use Rattle.controller.specs.Run.{BusCycle}
@@ -24,7 +23,7 @@ use Rattle.planner.specs.declared.count.Count.the-variants as count
 use Rattle.planner.proofs.Promised.{count-told}
 use Rattle.recorder.specs.Cycles.{anyWrong}
 use Rattle.recorder.specs.Written.{Written}
-use Rattle.recorder.specs.Text.{readRefusal, toldLines, toldBy, IsWrittenText, IsReadText}
+use Rattle.recorder.specs.Text.{toldLines, IsWrittenText, IsReadText}
 use Rattle.recorder.specs.Job.{wrongPictures, IsWrittenJob}
 use Rattle.recorder.specs.declared.text.Lines.{Lines}
 use Rattle.recorder.specs.declared.text.Lines.the-variants as lines

@@ -10,7 +10,7 @@ use mathlib.Core.List.{List}
 use lib.Dec.{ltb}
 use lib.ListN.{length}
 use Rattle.paper.specs.Refusal.{shortOutput, noText}
-use Rattle.paper.specs.Answers.{leftBy, same, Through}
+use Rattle.paper.specs.Answers.{leftBy, same}
 use Rattle.paper.proofs.Answering.{answers-one, test-number, Silent, refusal-leaves}
 use Rattle.bus.specs.Cycles.{cyclesOf}
 use Rattle.planner.specs.Count.{toldCount}
@@ -27,7 +27,7 @@ use Rattle.face.proofs.Refusing.{count-silent}
 use Rattle.recorder.specs.Written.{Written}
 use Rattle.recorder.specs.Text.{textRefusal, readRefusal, toldLines}
 use Rattle.recorder.specs.Job.{jobRefusal}
-use Rattle.recorder.specs.C.{JobOut, TextOut, LinesOut, HeaderOut, PlayOut, jobParts}
+use Rattle.recorder.specs.C.{JobOut, TextOut, LinesOut, HeaderOut, PlayOut}
 use Rattle.recorder.specs.declared.text.Lines.{Lines}
 use Rattle.recorder.specs.declared.text.Lines.the-variants as lines
 use Rattle.recorder.proofs.Promised.{text-one, job-one, lines-one, written-number, written-refused-leaves}
@@ -41,7 +41,8 @@ writer-leaves (count.Refused n) f h = written-refused-leaves f .1
 -- ---- write_job
 
 module _ (cycles : List ℕ) (p : ℕ) (pictures out : List ℕ) (n : ℕ) where
-  pub job-out-one : {o o′ : List ℕ} {a b r r′ : ℕ} → JobOut cycles p pictures out n o a r → JobOut cycles p pictures out n o′ b r′ → (o ≡ o′) × (a ≡ b) × (r ≡ r′)
+  pub job-out-one : {o o′ : List ℕ} {a b r r′ : ℕ} → JobOut cycles p pictures out n o a r → JobOut cycles p pictures out n o′ b r′
+      → (o ≡ o′) × (a ≡ b) × (r ≡ r′)
   job-out-one f g =
       let p′ = job-one cycles p pictures (f .promised) (g .promised) in
       let q = answers-one (ap toldCount (p′ .0)) (f .answers) (g .answers) in
@@ -84,7 +85,8 @@ line-told (lines.BadLine n) h = absurd (h refl)
 line-told (lines.Refused n) h = refl
 
 module _ (text out : List ℕ) (n l : ℕ) where
-  pub lines-out-one : {o o′ : List ℕ} {a a′ b b′ r r′ : ℕ} → LinesOut text out n l o a b r → LinesOut text out n l o′ a′ b′ r′ → (o ≡ o′) × (a ≡ a′) × (b ≡ b′) × (r ≡ r′)
+  pub lines-out-one : {o o′ : List ℕ} {a a′ b b′ r r′ : ℕ} → LinesOut text out n l o a b r → LinesOut text out n l o′ a′ b′ r′
+      → (o ≡ o′) × (a ≡ a′) × (b ≡ b′) × (r ≡ r′)
   lines-out-one f g =
       let p = lines-one (f .promised) (g .promised) in (
         p .1,

@@ -2,7 +2,7 @@
 -- its file, and 34,384 bytes always are; what it writes is read as what it was given; and from the parts of a file that the reader
 -- accepts it writes that file.
 -- Assumes nothing.
-use Prim.Native.Nat.{ℕ, _+_, _*_, _/_, _≤_, _<_}
+use Prim.Native.Nat.{ℕ, _+_, _*_, _≤_, _<_}
 use mathlib.Core.Path.{_≡_, sym, ap, subst, _∙_}
 use mathlib.Core.Logic.{_≢_, _⊎_, inl, inr, ⊎-elim}
 use mathlib.Core.Bool.{Bool, true, false, cond, _||_}
@@ -23,8 +23,7 @@ use Rattle.planner.proofs.Promised.{count-refused}
 use Rattle.jobs.specs.Header.{headerOf}
 use Rattle.jobs.specs.declared.header.Job.{Job}
 use Rattle.recorder.specs.Cycles.{anyWrong}
-use Rattle.recorder.specs.Written.{Written}
-use Rattle.recorder.specs.Job.{jobBytes, wrongPictures, jobRefusal, IsWrittenJob, fileCycles, filePictures}
+use Rattle.recorder.specs.Job.{jobBytes, wrongPictures, jobRefusal, IsWrittenJob, filePictures}
 use Rattle.recorder.proofs.CycleBytes.{Bytes}
 use Rattle.recorder.proofs.Answers.{job-length}
 use Rattle.recorder.proofs.JobFile.{cyclePart, part-cycles, JobRead, job-read, job-again}

@@ -96,7 +96,8 @@ module _ (cycles out : List ℕ) where
       (has-good (take n left) (cyclesOf cycles) g (sym whole), ap cyclesIn whole ∙ text-again (cyclesOf cycles) g)
 
 -- the text of a job's cycles: a file that the reader accepts, and 80,000 bytes, always get it
-pub file-text : (file : List ℕ) (j : Job) (out : List ℕ) (a : Count) (left : List ℕ) → headerOf file ≡ given j → IsWrittenText (cyclePart file j) out a left → 80000 ≤ length out
+pub file-text : (file : List ℕ) (j : Job) (out : List ℕ) (a : Count) (left : List ℕ) → headerOf file ≡ given j
+    → IsWrittenText (cyclePart file j) out a left → 80000 ≤ length out
     → (a ≡ count.Bytes (length (cyclesText (fileCycles file j)))) × (left ≡ over (cyclesText (fileCycles file j)) out)
 file-text file j out a left e f h =
     let p = part-cycles file j e in

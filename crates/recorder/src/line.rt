@@ -6,7 +6,7 @@ ghost use lib.ListN.{getD};
 ghost use Rattle.jobs.specs.Text.{digit, hex};
 ghost use Rattle.jobs.specs.Output.{Put};
 ghost use Rattle.recorder.specs.Line.{letterOf, cycleText, kindBy, digitBy};
-ghost use Rattle.recorder.specs.Scan.{said, noLine, shortLine, longLine, lineFor};
+ghost use Rattle.recorder.specs.Scan.{noLine, shortLine, longLine, lineFor};
 
 // The line in front of a text: the cycle that it says and how many bytes it takes, or that it says none.
 pub(crate) struct Line {

@@ -16,7 +16,8 @@ use Rattle.recorder.specs.Job.{fileCycles}
 use Rattle.recorder.proofs.JobFile.{cyclePart}
 use Rattle.recorder.proofs.PromisedText.{file-text}
 
-module _ (file : List ℕ) (j : Job) (out : List ℕ) {a : Count} {left : List ℕ} (e : headerOf file ≡ given j) (f : IsWrittenText (cyclePart file j) out a left) (room : 80000 ≤ length out) where
+module _ (file : List ℕ) (j : Job) (out : List ℕ) {a : Count} {left : List ℕ} (e : headerOf file ≡ given j)
+    (f : IsWrittenText (cyclePart file j) out a left) (room : 80000 ≤ length out) where
   abbrev text : List ℕ
   text = cyclesText (fileCycles file j)
 

@@ -49,4 +49,6 @@ make-job-spec =
     (λ c. search needs)
     (λ c. made-bad _ _ _ _ _ _ (rw (c .before .line .given .1) at (c .before .before .before .before .before .read-text .ensures)))
     (λ c. search needs)
-    (λ c. made-refused _ _ _ _ _ _ (c .before .before .before .before .before .before .before .before .before .before .pre .1) (rw (c .enum-told .given .1) at (c .before .before .before .before .read-text .ensures))))
+    (λ c.
+    let read = c .before .before .before .before in
+    made-refused _ _ _ _ _ _ (read .before .before .before .before .before .before .pre .1) (rw (c .enum-told .given .1) at (read .read-text .ensures))))

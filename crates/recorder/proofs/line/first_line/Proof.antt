@@ -1,7 +1,6 @@
 -- `recorder::line::first_line` meets its contract: by the kind of its letter there is no line, a short one or a long one.
 -- Assumes nothing.
 use mathlib.Core.Path.{_∙_}
-use denote.Ref.{now}
 use borrow.Author.Needs.{needs}
 use Rattle.recorder.proofs.Lines.{line-none, line-short, line-long}
 use Rattle.recorder.proofs.line.first_line.Statement.{statement}

@@ -88,7 +88,7 @@ pub data AllGood : List BusCycle → Type 0 where
   no-more : AllGood []
   one-more : {x : BusCycle} {xs : List BusCycle} → goodCycle x ≡ true → AllGood xs → AllGood (x ∷ xs)
 
--- bytes all of a list
+-- every number of a list is a byte
 abbrev pub Bytes : List ℕ → Type 0
 Bytes l = (i : ℕ) → getD l i 0 < 256
 

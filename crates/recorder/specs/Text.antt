@@ -43,7 +43,7 @@ unfoldable pub frontCycles : ℕ → List ℕ → List BusCycle
 frontCycles zero t = []
 frontCycles (suc n) t = cond (lineIn t) (cycleIn t ∷ frontCycles n (drop (length (cycleText (cycleIn t))) t)) []
 
--- all of them: a text has fewer lines than bytes
+-- all of them: a text has no more lines than bytes
 abbrev pub cyclesIn : List ℕ → List BusCycle
 cyclesIn t = frontCycles (length t) t
 

@@ -29,6 +29,15 @@ below n {m} = (ltb-true m n, lt-ltb m n)
 pub not-below : (n : ℕ) {m : ℕ} → Exactly (ltb m n ≡ false) (n ≤ m)
 not-below n {m} = (ltb-false m n, le-ltb m n)
 
+-- and when it has the other answer
+pub no-exactly : (t : Bool) {A : Type 0} → Exactly (t ≡ true) A → Exactly (t ≡ false) (A → ⊥)
+no-exactly true f = (λ e a. subst T e tt, λ h. absurd (h (f .0 refl)))
+no-exactly false f = (λ e a. subst T (sym (f .1 a)) tt, λ h. refl)
+
+pub yes-exactly : (t : Bool) {A : Type 0} → Exactly (t ≡ false) A → Exactly (t ≡ true) (A → ⊥)
+yes-exactly true f = (λ e a. subst T (f .1 a) tt, λ h. refl)
+yes-exactly false f = (λ e a. subst T (sym e) tt, λ h. absurd (h (f .0 refl)))
+
 -- two tests: either of them, and neither
 pub or-exactly : (a b : Bool) {A B : Type 0} → Exactly (a ≡ true) A → Exactly (b ≡ true) B → Exactly (a || b ≡ true) (A ⊎ B)
 or-exactly a b f g = (

@@ -12,7 +12,7 @@ use lib.Dec.{T}
 use lib.ListN.{length, drop, length-append, length-drop, drop-of-length-le}
 use lib.Seq.{drop-append-seam, drop-drop}
 use Rattle.paper.proofs.Cases.{split}
-use Rattle.paper.proofs.Exactly.{Exactly}
+use Rattle.paper.proofs.Exactly.{Exactly, yes-exactly}
 use Rattle.controller.specs.Run.{BusCycle}
 use Rattle.recorder.specs.Cycles.{goodCycle}
 use Rattle.recorder.specs.Line.{cycleText, cycleIn, lineIn}
@@ -140,10 +140,7 @@ good-exactly t = (
 
 -- a text is bad exactly if none has
 pub bad-exactly : (t : List ℕ) → Exactly (badText t ≡ true) (HasCycles t → ⊥)
-bad-exactly t = (
-  λ e h. subst T (sym e ∙ good-exactly t .1 h) tt,
-  λ h. split (badText t) (λ e. e) (λ e. absurd (h (good-exactly t .0 e))),
-)
+bad-exactly t = yes-exactly (badText t) (good-exactly t)
 
 -- ---- the first bad line
 

@@ -4,15 +4,14 @@
 use Prim.Native.Nat.{ℕ, _*_}
 use mathlib.Core.Path.{_≡_, refl, sym, ap, subst, _∙_}
 use mathlib.Core.Logic.{_≢_, inl, inr, ⊎-elim}
-use mathlib.Core.Bool.{Bool, true, false}
+use mathlib.Core.Bool.{true, false}
 use mathlib.Core.Option.{Option, none, some}
 use mathlib.Core.List.{List, [], _∷_}
 use lib.Dec.{T}
 use lib.ListN.{length}
 use Rattle.paper.specs.Over.{over}
-use Rattle.paper.proofs.Cases.{split}
 use Rattle.paper.proofs.Either.{either, or-true}
-use Rattle.paper.proofs.Exactly.{Exactly}
+use Rattle.paper.proofs.Exactly.{Exactly, no-exactly, yes-exactly}
 use Rattle.paper.proofs.Telling.{apart}
 use Rattle.paper.proofs.Answering.{number-number, refused-number}
 use Rattle.controller.specs.Cycle.{malformed}
@@ -91,21 +90,14 @@ by-among : (xs : List BusCycle) → WrongAmong xs → anyWrong xs ≡ true
 by-among (x ∷ xs) (first h) = wrong-next x xs ∙ or-true (malformed (x .0) (x .1)) (anyWrong xs) (inl h)
 by-among (x ∷ xs) (later w) = wrong-next x xs ∙ or-true (malformed (x .0) (x .1)) (anyWrong xs) (inr (by-among xs w))
 
--- what a test stands for, and its opposite
-opposite : (t : Bool) {A : Type 0} → Exactly (t ≡ true) A → Exactly (t ≡ false) (A → ⊥)
-opposite t f = (λ e a. subst T (sym (f .1 a) ∙ e) tt, λ h. split t (λ e. absurd (h (f .0 e))) (λ e. e))
-
 pub wrong-yes : (xs : List BusCycle) → Exactly (anyWrong xs ≡ true) (WrongAmong xs)
 wrong-yes xs = (among-by xs, by-among xs)
 
 pub wrong-no : (xs : List BusCycle) → Exactly (anyWrong xs ≡ false) (WrongAmong xs → ⊥)
-wrong-no xs = opposite (anyWrong xs) (wrong-yes xs)
+wrong-no xs = no-exactly (anyWrong xs) (wrong-yes xs)
 
 pub size-no : (total p : ℕ) → Exactly (wrongPictures total p ≡ false) (total ≡ 1188 * p)
 size-no total p = (right-pictures total p, pictures-right total p)
 
 pub size-yes : (total p : ℕ) → Exactly (wrongPictures total p ≡ true) (total ≢ 1188 * p)
-size-yes total p = (
-  λ e h. subst T (sym e ∙ pictures-right total p h) tt,
-  λ h. split (wrongPictures total p) (λ e. e) (λ e. absurd (h (right-pictures total p e))),
-)
+size-yes total p = yes-exactly (wrongPictures total p) (size-no total p)

@@ -21,15 +21,14 @@ use Rattle.paper.proofs.Telling.{apart, answerOf, some-one, none-some, given-on
 use Rattle.paper.proofs.Answering.{if-split, if-both, number-number, refused-number, Silent, nothing-given}
 use Rattle.paper.proofs.Cases.{split}
 use Rattle.paper.proofs.Exactly.{Exactly, then, both, same-number, below, or-exactly, here, past, nowhere}
-use Rattle.registers.specs.Registers.{outside, Ranged}
+use Rattle.registers.specs.Registers.{outside}
 use Rattle.registers.specs.declared.Registers.{Registers}
-use Rattle.registers.proofs.InRange.{ranged, ranges}
 use Rattle.state.specs.Packed.{packed, unpacked}
 use Rattle.state.specs.Unfit.{unfit, unfitNumber}
 use Rattle.state.proofs.Accepting.{unfit-some, Accepted, accepted-left}
 use Rattle.controller.specs.Run.{BusCycle}
 use Rattle.controller.specs.State.{State, state, step, number, run, numbers}
-use Rattle.controller.proofs.Ranges.{stays-ranged}
+use Rattle.controller.proofs.Keeping.{stays-inside}
 use Rattle.bus.specs.Cycles.{cyclesOf, turns}
 use Rattle.bus.specs.Run.{Outputs, numberEntry, tooShort, runRefusal, refusalOf, toldRan, ranFrom, IsRun}
 use Rattle.bus.specs.Packed.{RunOn, RunOut}
@@ -138,13 +137,13 @@ numbers-are k s (x ∷ xs) = ap (λ (l : List ℕ). number k s x ∷ l) (numbers
 -- ---- in range stays in range
 
 module _ (k : Sheet) (g : Sensible k) where
-  run-ranged : (s : State) (xs : List BusCycle) → Ranged k (s .registers) → Ranged k (run k s xs .registers)
-  run-ranged s [] h = h
-  run-ranged s (x ∷ xs) h = run-ranged (step k s x) xs (stays-ranged k g (s .registers) (s .memory) (x .0) (x .1) h)
+  run-inside : (s : State) (xs : List BusCycle) → outside k (s .registers) ≡ false → outside k (run k s xs .registers) ≡ false
+  run-inside s [] h = h
+  run-inside s (x ∷ xs) h = run-inside (step k s x) xs (stays-inside k g (s .registers) (s .memory) (x .0) (x .1) h)
 
-  pub stay-ranged : {r r′ : Registers} {m cycles left : List ℕ} {o x : Outputs} → Ranged k r → IsRun k r m cycles o (After r′) left x → Ranged k r′
-  stay-ranged {r} {m = m} {cycles = cycles} h f =
-      subst (λ (s : State). Ranged k (s .registers)) (sym (run-is f)) (run-ranged (state r m) (cyclesOf cycles) h)
+  pub stay-inside : {r r′ : Registers} {m cycles left : List ℕ} {o x : Outputs} → outside k r ≡ false → IsRun k r m cycles o (After r′) left x → outside k r′ ≡ false
+  stay-inside {r} {m = m} {cycles = cycles} h f =
+      subst (λ (s : State). outside k (s .registers) ≡ false) (sym (run-is f)) (run-inside (state r m) (cyclesOf cycles) h)
 
 -- ---- on the packed state
 
@@ -191,5 +190,5 @@ module _ (s m cycles : List ℕ) (o : Outputs) where
         after-ranged : (x : Ran) → RunOn s m cycles o x m′ o′ → (n : Registers) → toldRan x .value ≡ some n → outside sheet0713 n ≡ false
         after-ranged (After q) p n e = if-split (unfit s) p (λ t u. absurd (subst T (sym t ∙ a .0) tt))
             (λ t u. subst (λ (y : Registers). outside sheet0713 y ≡ false) (some-one e)
-            (ranged sheet0713 q (stay-ranged sheet0713 sensible0713 (ranges sheet0713 (unpacked s) (a .1)) u)))
+            (stay-inside sheet0713 sensible0713 (a .1) u))
         after-ranged (Refused q) p n e = absurd (none-some e)

@@ -11,7 +11,9 @@ use crate::print::word;
 use controller::cycle::Answer;
 use controller::cycle::cycle;
 use controller::cycle::cycle_ks0717;
+use instructions::added::CommandSet;
 use instructions::instruction::Awaited;
+use registers::Beside;
 use registers::Column;
 use registers::ModifyRead;
 use registers::Registers;
@@ -29,14 +31,34 @@ fn awaited_byte(awaited: Awaited) {
         Awaited::Nothing => word(b" nothing"),
         Awaited::Contrast => word(b" contrast"),
         Awaited::Indicator => word(b" indicator"),
+        Awaited::Com0 => word(b" com0"),
+        Awaited::Duty => word(b" duty"),
+        Awaited::Inversion => word(b" inversion"),
     }
 }
 
+fn set_word(set: CommandSet) {
+    match set {
+        CommandSet::Old => word(b" old"),
+        CommandSet::New => word(b" new"),
+    }
+}
+
+// The command set, initial COM0, duty and inversion.
+fn show_beside(beside: Beside) {
+    let set = beside.set;
+    set_word(set);
+    byte(beside.com0);
+    byte(beside.duty);
+    byte(beside.inversion);
+}
+
 // Page, column, start line, contrast, resistor, power, bias, ADC, SHL, reverse, entire, on, indicator, its value, holder, pin
-// low, saved column, awaited, and whether a data read would be fresh.
-fn show(registers: Registers) {
+// low, saved column, awaited, whether a data read would be fresh, and what stands beside them.
+pub(crate) fn show(registers: Registers) {
     let mode = registers.modify_read;
     let awaited = registers.awaited;
+    let beside = registers.beside;
     byte(registers.page);
     byte(registers.column.0);
     byte(registers.start_line);
@@ -50,6 +72,7 @@ fn show(registers: Registers) {
     saved(mode);
     awaited_byte(awaited);
     flag(registers.fresh);
+    show_beside(beside);
     line();
 }
 
@@ -152,7 +175,7 @@ pub(crate) fn run_on(chip: Chip, start: Registers, memory: &mut [u8], cases: &[u
 }
 
 // On the KS0713, with a memory of zeros.
-fn run(start: Registers, cases: &[u8]) {
+pub(crate) fn run(start: Registers, cases: &[u8]) {
     let mut memory = zeros();
     run_on(Chip::Ks0713, start, &mut memory, cases);
 }
@@ -172,8 +195,8 @@ fn prepared() -> Registers {
     }
 }
 
-// Every register away from its start value, with 88 saved and contrast awaited.
-fn altered() -> Registers {
+// Every register away from its start value, in the old command set, with 88 saved and contrast awaited.
+pub(crate) fn altered() -> Registers {
     Registers {
         page: 3,
         column: Column(89),
@@ -194,6 +217,12 @@ fn altered() -> Registers {
         modify_read: ModifyRead::On(Column(88)),
         awaited: Awaited::Contrast,
         fresh: true,
+        beside: Beside {
+            set: CommandSet::Old,
+            com0: 79,
+            duty: 17,
+            inversion: 33,
+        },
     }
 }
 

@@ -3,6 +3,7 @@ mod buffers;
 mod chip;
 mod glass_cases;
 mod ks0717;
+mod ks0759;
 mod print;
 mod recording;
 mod streams;
@@ -30,4 +31,11 @@ fn main() {
     recording::jobs();
     recording::picture_counts();
     recording::long_jobs();
+    ks0759::heading();
+    ks0759::bytes();
+    ks0759::cycles();
+    ks0759::switches();
+    ks0759::glass();
+    ks0759::writings();
+    recording::new_jobs();
 }

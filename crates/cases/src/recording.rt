@@ -1,10 +1,12 @@
 // The recorder: texts that are read, good and bad, and what its writers refuse.
 use crate::buffers::zeros;
+use crate::print::byte;
 use crate::print::line;
 use crate::print::number;
 use crate::print::refused;
 use crate::print::word;
 use crate::streams::answer;
+use instructions::added::CommandSet;
 use recorder::job::write_job;
 use recorder::text::Lines;
 use recorder::text::read_text;
@@ -136,12 +138,19 @@ fn three_less_a_byte() -> [u8; 3563]
     [0; 3563]
 }
 
-// A job, written into room for so many bytes.
-fn job_of(what: &[u8], cycles: &[u8], count: usize, pictures: &[u8], room: &mut [u8]) {
+// A job of a command set, written into room for so many bytes.
+fn job_of(
+    what: &[u8],
+    set: CommandSet,
+    cycles: &[u8],
+    count: usize,
+    pictures: &[u8],
+    room: &mut [u8],
+) {
     word(what);
     word(b" as a job into");
     number(room.len());
-    answer(write_job(cycles, count, pictures, room));
+    answer(write_job(set, cycles, count, pictures, room));
 }
 
 // No cycles and one picture, with room and without; and a cycle that is none.
@@ -149,9 +158,9 @@ pub(crate) fn jobs() {
     let picture = zeros();
     let mut room = [0u8; 1196];
     let mut less = [0u8; 1195];
-    job_of(b"one picture", b"", 1, &picture, &mut room);
-    job_of(b"one picture", b"", 1, &picture, &mut less);
-    job_of(b"kind 6", b"\x06\x00", 0, b"", &mut room);
+    job_of(b"one picture", CommandSet::Old, b"", 1, &picture, &mut room);
+    job_of(b"one picture", CommandSet::Old, b"", 1, &picture, &mut less);
+    job_of(b"kind 6", CommandSet::Old, b"\x06\x00", 0, b"", &mut room);
 }
 
 // Three pictures, three of which one is a byte short, and one that is told as two.
@@ -160,9 +169,30 @@ pub(crate) fn picture_counts() {
     let pictures = three_pictures();
     let short = three_less_a_byte();
     let mut room = [0u8; 1196];
-    job_of(b"three pictures", b"", 3, &pictures, &mut room);
-    job_of(b"three, a byte short", b"", 3, &short, &mut room);
-    job_of(b"one, told as two", b"", 2, &picture, &mut room);
+    job_of(
+        b"three pictures",
+        CommandSet::Old,
+        b"",
+        3,
+        &pictures,
+        &mut room,
+    );
+    job_of(
+        b"three, a byte short",
+        CommandSet::Old,
+        b"",
+        3,
+        &short,
+        &mut room,
+    );
+    job_of(
+        b"one, told as two",
+        CommandSet::Old,
+        b"",
+        2,
+        &picture,
+        &mut room,
+    );
 }
 
 fn many_cycles() -> [u8; 32002]
@@ -183,6 +213,40 @@ pub(crate) fn long_jobs() {
     let many = many_cycles();
     let pictures = two_pictures();
     let mut room = job_room();
-    job_of(b"the longest", &cycles, 2, &pictures, &mut room);
-    job_of(b"16,001 cycles", &many, 0, b"", &mut room);
+    job_of(
+        b"the longest",
+        CommandSet::Old,
+        &cycles,
+        2,
+        &pictures,
+        &mut room,
+    );
+    job_of(b"16,001 cycles", CommandSet::Old, &many, 0, b"", &mut room);
+}
+
+// The new command set: one picture, and two, which are one too many.
+pub(crate) fn new_jobs() {
+    let picture = zeros();
+    let pictures = two_pictures();
+    let mut room = [0u8; 1196];
+    job_of(
+        b"one picture, new",
+        CommandSet::New,
+        b"",
+        1,
+        &picture,
+        &mut room,
+    );
+    word(b"its count field:");
+    byte(room[4]);
+    byte(room[5]);
+    line();
+    job_of(
+        b"two pictures, new",
+        CommandSet::New,
+        b"",
+        2,
+        &pictures,
+        &mut room,
+    );
 }

@@ -2,7 +2,7 @@
 -- is refused before the byte is looked at, and such a state is left. Status reads and pin cycles are carried out with the pin low too.
 -- Assumes nothing.
 use Prim.Native.Nat.{ℕ, _*_}
-use mathlib.Core.Path.{_≡_, _∙_, refl, ap, sym, subst}
+use mathlib.Core.Path.{_≡_, _∙_, refl, ap}
 use mathlib.Core.Bool.{false, _||_}
 use mathlib.Core.List.{List}
 use lib.ListN.{length}
@@ -13,16 +13,16 @@ use Rattle.paper.specs.Sheet.{Sensible}
 use Rattle.paper.specs.declared.sheet.Sheet.{Sheet}
 use Rattle.instructions.specs.Read.{readOf}
 use Rattle.instructions.specs.declared.instruction.Instruction.{Instruction}
-use Rattle.instructions.proofs.Fits.{read-fits}
-use Rattle.registers.specs.Registers.{Ranged, withFresh, outside}
+use Rattle.registers.specs.Registers.{withFresh, outside}
 use Rattle.registers.specs.declared.Registers.{Registers}
-use Rattle.registers.proofs.InRange.{ranged, ranges}
+use Rattle.registers.proofs.InRange.{ranged}
 use Rattle.controller.specs.Memory.{stored}
 use Rattle.controller.specs.Cycle.{done, written, afterInstruction, malformed, heldLow, refusal, carried, kept, answer, memoryAfter}
 use Rattle.controller.specs.Run.{BusCycle}
 use Rattle.controller.specs.State.{State, state, afterBy, step, number, Restartable}
-use Rattle.controller.proofs.Cells.{both-false, stored-length}
-use Rattle.controller.proofs.Ranges.{marked-ranged, executed-ranged, executed-pin, stays-ranged}
+use Rattle.controller.proofs.Cells.{both-false}
+use Rattle.controller.proofs.Ranges.{executed-leaves, stays-long}
+use Rattle.controller.proofs.Keeping.{stays-inside, stays-set}
 
 -- ---- no number before 4
 
@@ -65,20 +65,26 @@ pub does : (k : Sheet) (s : State) (x : BusCycle) (r : Registers) (m : List ℕ)
 does k s x r m e f =
     (ap (λ o. o .number) e, ap (λ o. state (afterBy (s .registers) (o .registers)) (memoryAfter k (s .registers) (s .memory) (x .0) (x .1))) e ∙ ap (state r) f)
 
+-- a cycle that leaves the pin high leaves a state in which the bus can be used: in range, and in the old set
+pub stays-restartable : (k : Sheet) → Sensible k → (s : State) (x : BusCycle) → Restartable k s → step k s x .registers .«pin_low» ≡ s .registers .«pin_low»
+    → Restartable k (step k s x)
+stays-restartable k g s x h p = record {
+  long = stays-long k (s .registers) (s .memory) (x .0) (x .1) ∙ h .long;
+  ranged = stays-inside k g (s .registers) (s .memory) (x .0) (x .1) (h .ranged);
+  high = p ∙ h .high;
+  old = stays-set k (s .registers) (s .memory) (x .0) (x .1) ∙ h .old;
+}
+
 -- an instruction byte that is read as i, with whatever is awaited
 pub acts : (k : Sheet) → Sensible k → (s : State) (i : Instruction) (b : ℕ) → Restartable k s → readOf k (s .registers .awaited) b ≡ given i
     → (number k s (0, b) ≡ 0) × (step k s (0, b) ≡ state (afterInstruction k (s .registers) i) (s .memory)) × Restartable k (step k s (0, b))
 unfolding carried kept
 acts k g s i b h e =
     let r = s .registers in
-    let d = does k s (0, b) (afterInstruction k r i) (s .memory) (carries h 0 b refl ∙ rw e refl) (keeps h 0 b refl) in (
+    let d = does k s (0, b) (afterInstruction k r i) (s .memory) (carries h 0 b refl ∙ rw (h .old, e) refl) (keeps h 0 b refl) in (
       d .0,
       d .1,
-      subst (Restartable k) (sym (d .1)) (record {
-        long = h .long;
-        ranged = ranged k (afterInstruction k r i) (marked-ranged k _ _ (executed-ranged k g r i (read-fits k g (r .awaited) b i e) (ranges k r (h .ranged))));
-        high = executed-pin k r i ∙ h .high;
-      }),
+      stays-restartable k g s (0, b) h (ap (λ t. t .registers .«pin_low») (d .1) ∙ executed-leaves k r i .0),
     )
 
 -- a data write, wherever the column stands
@@ -93,9 +99,5 @@ writes k g s b h =
     let d = does k s (1, b) (withFresh (written (k .width) r b) false) m (carries h 1 b refl) (keeps h 1 b refl) in (
       d .0,
       d .1,
-      subst (Restartable k) (sym (d .1)) (record {
-        long = stored-length (k .width) (s .memory) (r .page) (r .column .0) b ∙ h .long;
-        ranged = ranged k (withFresh (written (k .width) r b) false) (subst (λ o. Ranged k (afterBy r (o .registers))) (carries h 1 b refl) (stays-ranged k g r (s .memory) 1 b (ranges k r (h .ranged))));
-        high = h .high;
-      }),
+      stays-restartable k g s (1, b) h (ap (λ t. t .registers .«pin_low») (d .1)),
     )

@@ -3,7 +3,7 @@
 -- Assumes nothing.
 use Prim.Native.Nat.{ℕ, _+_, _<_}
 use mathlib.Core.Path.{_≡_, _∙_, refl, ap, sym, subst}
-use mathlib.Core.Bool.{Bool, cond}
+use mathlib.Core.Bool.{Bool, true, cond, false≢true}
 use native.Mathlib.Omega.{arith}
 use native.Mathlib.Numerals.{add-one}
 use Rattle.paper.specs.Told.{given}
@@ -11,6 +11,8 @@ use Rattle.paper.specs.Sheet.{Sensible}
 use Rattle.paper.specs.declared.sheet.Sheet.{Sheet}
 use Rattle.instructions.specs.Write.{writeOf}
 use Rattle.instructions.specs.Read.{readOf, awaitedFor}
+use Rattle.instructions.specs.Added.{ofOther}
+use Rattle.instructions.specs.declared.added.CommandSet.the-variants.{Old}
 use Rattle.instructions.specs.declared.instruction.Awaited.{Awaited}
 use Rattle.instructions.specs.declared.instruction.Awaited.the-variants as awaited
 use Rattle.instructions.specs.declared.instruction.Instruction.{Instruction}
@@ -19,6 +21,7 @@ use Rattle.instructions.proofs.Fields.{field-given}
 use Rattle.instructions.proofs.ReadBack.{read-back}
 use Rattle.registers.specs.Registers.{column, withContrast, withIndicator, withIndicatorValue, withAwaited, withFresh}
 use Rattle.registers.specs.declared.Registers.{Registers}
+use Rattle.registers.proofs.InRange.{own-awaited}
 use Rattle.controller.specs.Execute.{executed}
 use Rattle.controller.specs.Memory.{stored}
 use Rattle.controller.specs.Cycle.{written, afterInstruction}
@@ -107,10 +110,17 @@ module _ (k : Sheet) (g : Sensible k) (s : State) (h : Restartable k s) where
         ap (λ t. t .registers .«indicator_value») (e .1) ∙ f .3,
       )
 
+  -- in range and in the old set no byte of the new one is awaited
+  foreign : (a : Awaited) → ofOther Old a ≡ true → s .registers .awaited ≡ a → ⊥
+  foreign a t e = false≢true (sym (own-awaited k (s .registers) (h .ranged)) ∙ rw (h .old, e) t)
+
   pub spent-by : (a : Awaited) → s .registers .awaited ≡ a → Spent (cond (indicatorAwaited a) 3 (s .registers .«indicator_value»))
   spent-by awaited.Nothing e = spent-as Nop _ (rw e (read-back k g Nop 0xe3 refl)) (e, refl, refl, refl)
   spent-by awaited.Contrast e = spent-as (ContrastValue 35) _ (rw e refl) (refl, refl, refl, refl)
   spent-by awaited.Indicator e = spent-as (IndicatorValue 3) _ (rw e refl) (refl, refl, refl, refl)
+  spent-by awaited.Com0 e = absurd (foreign awaited.Com0 refl e)
+  spent-by awaited.Duty e = absurd (foreign awaited.Duty refl e)
+  spent-by awaited.Inversion e = absurd (foreign awaited.Inversion refl e)
 
 abbrev pub restartOf : (k : Sheet) (g : Sensible k) → Restart (chipOf k g)
 restartOf k g = record {

@@ -14,6 +14,8 @@ use borrow.Author.Tests.{eqb-true}
 use Rattle.paper.specs.declared.sheet.Sheet.{Sheet}
 use Rattle.paper.proofs.Cases.{chosen, split}
 use Rattle.instructions.specs.Read.{readOf}
+use Rattle.instructions.specs.Added.{readAdded}
+use Rattle.instructions.specs.declared.added.Added.{Added}
 use Rattle.instructions.specs.declared.instruction.Instruction.{Instruction}
 use Rattle.instructions.specs.declared.instruction.Instruction.the-variants.{ColumnLow, ColumnHigh, Resistor, Power, StartLine, ContrastNext, ContrastValue, Adc, Bias, Entire, Reverse, IndicatorOff, IndicatorOn, IndicatorValue, Display, Page, Shl, ModifyReadOn, ModifyReadOff, Reset, Nop}
 use Rattle.registers.specs.Registers.{withFresh}
@@ -21,10 +23,11 @@ use Rattle.registers.specs.declared.ModifyRead.{ModifyRead}
 use Rattle.registers.specs.declared.ModifyRead.the-variants.{Off, On}
 use Rattle.registers.specs.declared.Registers.{Registers}
 use Rattle.controller.specs.Memory.{loaded}
-use Rattle.controller.specs.Cycle.{Outcome, written, afterRead, afterInstruction, instructedBy, refusal, carried, kept, answer, memoryAfter}
+use Rattle.controller.specs.Cycle.{Outcome, written, afterRead, afterInstruction, instructedBy, instructedAddedBy, refusal, carried, kept, answer, memoryAfter}
 use Rattle.controller.specs.Run.{BusCycle}
 use Rattle.controller.specs.State.{State, state, afterBy, step, run, poweredUp}
 use Rattle.controller.specs.ReadBack.{HoldsCell}
+use Rattle.controller.proofs.Sets.{in-either, added-moves}
 
 -- where the mark is fresh
 abbrev Backed : Sheet → State → Type 0
@@ -65,6 +68,11 @@ module _ (k : Sheet) (r : Registers) (m : List ℕ) (h : Backed k (state r m)) w
   instructed-backed n (some i) = instruction-backed i
   instructed-backed n none = h
 
+  -- one of the new set moves neither page, column, holder nor the mark
+  added-backed : (n : ℕ) (x : Option Added) → Backed k (state (afterBy r (instructedAddedBy r n x .registers)) m)
+  added-backed n (some i) = subst (λ q. Backed k (state q m)) (sym (added-moves r i)) (λ f. same-place _ refl refl refl (h f))
+  added-backed n none = h
+
   -- a data read loads the cell
   read-backed : (mode : ModifyRead) → HoldsCell k (state (withFresh (afterRead (k .width) r mode (loaded (k .width) m (r .page) (r .column .0))) true) m)
   unfolding written
@@ -78,7 +86,8 @@ module _ (k : Sheet) (r : Registers) (m : List ℕ) (h : Backed k (state r m)) w
       split (eqb kind 1)
       (λ e. subst (λ (x : ℕ). Backed k (state (afterBy r (carried k r m x value .registers)) (kept (k .width) r m x value))) (sym (eqb-true kind 1 e)) (stale refl))
       (λ e. rw e
-      (chosen P (eqb kind 0) (instructed-backed _ (readOf k (r .awaited) value .value))
+      (chosen P (eqb kind 0)
+      (in-either P k r value (instructed-backed _ (readOf k (r .awaited) value .value)) (added-backed _ (readAdded (r .awaited) value .value)) (r .beside .set))
       (chosen P (eqb kind 2) h
       (chosen P (eqb kind 3) (λ f. read-backed (r .«modify_read»))
       (chosen P (eqb kind 4) (stale refl) (λ f. same-place _ refl refl refl (h f)))))))

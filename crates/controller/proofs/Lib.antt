@@ -1,5 +1,7 @@
 pub mod Cells
+pub mod Sets
 pub mod Ranges
+pub mod Keeping
 pub mod Acting
 pub mod Chips
 pub mod Unique

@@ -13,13 +13,18 @@ use borrow.Author.Tests.{eq-eqb, ne-eqb}
 use Rattle.paper.specs.declared.sheet.Sheet.{Sheet}
 use Rattle.paper.proofs.Cases.{chosen, split}
 use Rattle.instructions.specs.Read.{readOf}
+use Rattle.instructions.specs.Added.{readAdded}
+use Rattle.instructions.specs.declared.added.Added.{Added}
+use Rattle.instructions.specs.declared.added.CommandSet.{CommandSet}
+use Rattle.instructions.specs.declared.added.CommandSet.the-variants.{Old, New}
 use Rattle.instructions.specs.declared.instruction.Instruction.{Instruction}
 use Rattle.registers.specs.declared.Registers.{Registers}
 use Rattle.controller.specs.Execute.{endsReading}
-use Rattle.controller.specs.Cycle.{Outcome, refusedWith, instructedBy, refusal, carried, answer}
+use Rattle.controller.specs.Cycle.{Outcome, refusedWith, instructedBy, instructedAddedBy, instructedIn, refusal, carried, answer}
 use Rattle.controller.specs.Run.{BusCycle}
 use Rattle.controller.specs.State.{State, afterBy, step, number, run, numbers, poweredUp, Restartable}
-use Rattle.controller.specs.Mark.{instructionCounts, kindCounts, counted, allCounted, lastCounted}
+use Rattle.controller.specs.Mark.{instructionCounts, countsIn, kindCounts, counted, allCounted, lastCounted}
+use Rattle.controller.proofs.Sets.{in-either, added-moves}
 use Rattle.controller.proofs.Acting.{carries}
 
 -- ---- one cycle
@@ -45,6 +50,15 @@ instruction-marks : (k : Sheet) (r : Registers) (n : ℕ) (x : Option Instructio
 instruction-marks k r n (some i) = ended (endsReading i) (r .fresh)
 instruction-marks k r n none = uncounted (eqb n 0) (r .fresh)
 
+-- one of the new set does not count
+added-marks : (r : Registers) (n : ℕ) (x : Option Added) → Marks r (instructedAddedBy r n x) none
+added-marks r n (some i) = ap (λ q. q .fresh) (added-moves r i)
+added-marks r n none = uncounted (eqb n 0) (r .fresh)
+
+in-set-marks : (k : Sheet) (s : State) (x : BusCycle) (set : CommandSet) → Marks (s .registers) (instructedIn k (s .registers) (x .1) set) (countsIn k s x set)
+in-set-marks k s x Old = instruction-marks k (s .registers) _ (readOf k (s .registers .awaited) (x .1) .value)
+in-set-marks k s x New = added-marks (s .registers) _ (readAdded (s .registers .awaited) (x .1) .value)
+
 unless-refused : (r : Registers) (n : ℕ) (t : Bool) → eqb n 0 ≡ t → (o : Outcome) (c : Option Bool) → Marks r o c → Marks r (cond t o (refusedWith n)) c
 unless-refused r n true e o c h = h
 unless-refused r n false e o c h = rw e refl
@@ -66,7 +80,7 @@ module _ (k : Sheet) where
       let P = Marks r in
       let n = refusal k (length (s .memory)) r (x .0) (x .1) in
       unless-refused r n (eqb n 0) refl _ _
-      (both-chosen P (eqb (x .0) 0) (instruction-marks k r _ (readOf k (r .awaited) (x .1) .value))
+      (both-chosen P (eqb (x .0) 0) (in-set-marks k s x (r .beside .set))
       (both-chosen P (eqb (x .0) 1) refl
       (both-chosen P (eqb (x .0) 2) refl
       (both-chosen P (eqb (x .0) 3) refl
@@ -105,13 +119,18 @@ module _ (k : Sheet) where
   instructed-unmarked r n (some i) = refl
   instructed-unmarked r n none = refl
 
+  added-unmarked : (r : Registers) (n : ℕ) (x : Option Added) → instructedAddedBy r n x .fresh ≡ none
+  added-unmarked r n (some i) = refl
+  added-unmarked r n none = refl
+
   -- and no other cycle answers a mark
   pub others-unmarked : (r : Registers) (m : List ℕ) (kind value : ℕ) → kind ≢ 3 → answer k r m kind value .fresh ≡ none
   unfolding answer carried
   others-unmarked r m kind value h =
       let P : Outcome → Type 0 = λ o. o .fresh ≡ none in
       chosen P (eqb (refusal k (length m) r kind value) 0)
-      (chosen P (eqb kind 0) (instructed-unmarked r _ (readOf k (r .awaited) value .value))
+      (chosen P (eqb kind 0)
+      (in-either P k r value (instructed-unmarked r _ (readOf k (r .awaited) value .value)) (added-unmarked r _ (readAdded (r .awaited) value .value)) (r .beside .set))
       (chosen P (eqb kind 1) refl (chosen P (eqb kind 2) refl (rw (ne-eqb kind 3 h) (chosen P (eqb kind 4) refl refl)))))
       refl
 
@@ -137,12 +156,16 @@ module _ (k : Sheet) where
   instruction-stales (some i) = chosen Stales (endsReading i) refl refl
   instruction-stales none = refl
 
+  in-set-stales : (s : State) (x : BusCycle) (set : CommandSet) → Stales (countsIn k s x set)
+  in-set-stales s x Old = instruction-stales (readOf k (s .registers .awaited) (x .1) .value)
+  in-set-stales s x New = refl
+
   pub stays-stale : (s : State) (x : BusCycle) → x .0 ≢ 3 → s .registers .fresh ≡ false → step k s x .registers .fresh ≡ false
   unfolding counted kindCounts
   stays-stale s x h e =
       mark-step s x ∙ ap (λ (f : Bool). lastCounted f (counted k s x ∷ [])) e
       ∙ chosen Stales (eqb (number k s x) 0)
-      (chosen Stales (eqb (x .0) 0) (instruction-stales (readOf k (s .registers .awaited) (x .1) .value))
+      (chosen Stales (eqb (x .0) 0) (in-set-stales s x (s .registers .beside .set))
       (chosen Stales (eqb (x .0) 1) refl (chosen Stales (eqb (x .0) 2) refl (rw (ne-eqb (x .0) 3 h) (chosen Stales (eqb (x .0) 4) refl refl)))))
       refl
 

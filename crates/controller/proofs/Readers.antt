@@ -18,24 +18,26 @@ use Rattle.paper.proofs.Cases.{chosen, less}
 use Rattle.paper.proofs.Exactly.{Exactly}
 use Rattle.paper.proofs.Sensible.{sensible0717}
 use Rattle.instructions.specs.Read.{readOf}
+use Rattle.instructions.specs.Added.{readAdded}
+use Rattle.instructions.specs.declared.added.Added.{Added}
 use Rattle.instructions.specs.declared.instruction.Instruction.{Instruction}
 use Rattle.instructions.specs.declared.instruction.Instruction.the-variants.{ColumnLow, ColumnHigh, Page, ModifyReadOn, ModifyReadOff}
 use Rattle.instructions.proofs.Fields.{field-given}
-use Rattle.registers.specs.Registers.{outside, withModifyRead, withHolder, withPinLow, withFresh, start}
+use Rattle.registers.specs.Registers.{outside, withModifyRead, withHolder, withPinLow, withFresh, withSet, start}
 use Rattle.registers.specs.declared.Column.{Column}
 use Rattle.registers.specs.declared.ModifyRead.{ModifyRead}
 use Rattle.registers.specs.declared.ModifyRead.the-variants.{Off, On}
 use Rattle.registers.specs.declared.Registers.{Registers}
-use Rattle.registers.proofs.InRange.{ranged, ranges}
+use Rattle.registers.proofs.InRange.{start-inside}
 use Rattle.controller.specs.Memory.{loaded, advanced}
-use Rattle.controller.specs.Cycle.{Outcome, dataRead, refusedWith, afterInstruction, instructedBy, written, afterRead, refusal, carried, kept, answer, memoryAfter}
+use Rattle.controller.specs.Cycle.{Outcome, dataRead, refusedWith, afterLow, afterInstruction, instructedBy, instructedAddedBy, written, afterRead, refusal, carried, kept, answer, memoryAfter}
 use Rattle.controller.specs.Run.{BusCycle}
 use Rattle.controller.specs.Chip.{pageCycle, highCycle, lowCycle, dataCycle}
 use Rattle.controller.specs.State.{State, state, afterBy, step, number, run, Restartable, Ready, placed}
 use Rattle.controller.specs.ReadBack.{marked, bytesRead, cellsFrom}
 use Rattle.controller.proofs.Cells.{past-columns, stored-none, advanced-below, advanced-locked}
-use Rattle.controller.proofs.Ranges.{stays-ranged}
-use Rattle.controller.proofs.Acting.{carries, keeps, writes}
+use Rattle.controller.proofs.Sets.{in-either}
+use Rattle.controller.proofs.Acting.{carries, keeps, stays-restartable, writes}
 use Rattle.controller.proofs.Chips.{obeys, still, written-ready}
 use Rattle.controller.proofs.Spelled.{pin-low-starts, pin-high-raises}
 
@@ -59,11 +61,16 @@ module _ (k : Sheet) (r : Registers) (m : List ℕ) (value : ℕ) where
   silent-by n (some i) = inl refl
   silent-by n none = inr refl
 
+  silent-added : (n : ℕ) (x : Option Added) → Silent (instructedAddedBy r n x)
+  silent-added n (some i) = inl refl
+  silent-added n none = inr refl
+
   silent : (kind : ℕ) → Silent (answer k r m kind value)
   unfolding answer carried
   silent kind =
       chosen Silent (eqb (refusal k (length m) r kind value) 0)
-      (chosen Silent (eqb kind 0) (silent-by _ (readOf k (r .awaited) value .value))
+      (chosen Silent (eqb kind 0)
+      (in-either Silent k r value (silent-by _ (readOf k (r .awaited) value .value)) (silent-added _ (readAdded (r .awaited) value .value)) (r .beside .set))
       (chosen Silent (eqb kind 1) (inl refl) (chosen Silent (eqb kind 2) (inl refl) (chosen Silent (eqb kind 3) (inl refl) (chosen Silent (eqb kind 4) (inl refl) (inl refl))))))
       (inr refl)
 
@@ -209,11 +216,7 @@ module _ (k : Sheet) (g : Sensible k) where
       ap (λ o. state (afterBy r (o .registers)) (memoryAfter k r (s .memory) 3 0)) a ∙ ap (state n) (keeps h 3 0 refl) in (
         ap (λ o. (o .byte, o .fresh)) a,
         q,
-        record {
-          long = ap (λ t. length (t .memory)) q ∙ h .long;
-          ranged = ranged k (step k s (3, 0) .registers) (stays-ranged k g r (s .memory) 3 0 (ranges k r (h .ranged)));
-          high = ap (λ t. t .registers .«pin_low») q ∙ h .high;
-        },
+        stays-restartable k g s (3, 0) h (ap (λ t. t .registers .«pin_low») q),
       )
 
   pub reads-back : (n : ℕ) (s : State) → Restartable k s → s .registers .«modify_read» ≡ Off → s .registers .column .0 + n ≤ k .width
@@ -253,12 +256,12 @@ module _ (k : Sheet) (g : Sensible k) where
       ap (λ t. bytesRead k t (suc n)) f
       ∙ reads-back n (state (withFresh (placed r p c (r .holder)) false) (s .memory)) (subst (Restartable k) f (d3 .2)) e hn
 
--- ---- the pin: from any registers in range, low then high leaves power-up's registers but for the holder, and the memory
+-- ---- the pin: from any registers in range, low then high leaves power-up's registers but for the holder and the command set, and the
+-- memory
 
 pub pin-resets : (k : Sheet) → Sensible k → (s : State) → length (s .memory) ≡ 9 * k .width → outside k (s .registers) ≡ false
-    → run k s ((4, 0) ∷ (5, 0) ∷ []) ≡ state (withHolder (withPinLow (start k 0 true) false) (s .registers .holder)) (s .memory)
+    → run k s ((4, 0) ∷ (5, 0) ∷ []) ≡ state (withSet (withHolder (withPinLow (start k 0 true) false) (s .registers .holder)) (s .registers .beside .set)) (s .memory)
 pin-resets k g s long e =
-    let low = state (start k (s .registers .holder) true) (s .memory) in
+    let low = state (afterLow k (s .registers)) (s .memory) in
     let f : step k s (4, 0) ≡ low = pin-low-starts k s long e .1 in
-    let u : outside k (low .registers) ≡ false = ap (λ t. outside k (t .registers)) (sym f) ∙ ranged k (step k s (4, 0) .registers) (stays-ranged k g (s .registers) (s .memory) 4 0 (ranges k (s .registers) e)) in
-    ap (λ t. step k t (5, 0)) f ∙ pin-high-raises k low long u .1
+    ap (λ t. step k t (5, 0)) f ∙ pin-high-raises k low long (start-inside k g (s .registers .beside .set) (s .registers .holder) true) .1

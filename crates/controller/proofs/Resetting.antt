@@ -16,7 +16,8 @@ use Rattle.instructions.specs.declared.instruction.Awaited.the-variants as awai
 use Rattle.instructions.specs.declared.instruction.Instruction.{Instruction}
 use Rattle.instructions.specs.declared.instruction.Instruction.the-variants.{Power, ContrastValue, Adc, Bias, Entire, Reverse, IndicatorValue, Display, ModifyReadOn, Reset}
 use Rattle.instructions.proofs.Fields.{field-given, flag-given}
-use Rattle.registers.specs.Registers.{column, withContrast, withIndicatorValue, withAwaited, withPinLow, withHolder, withFresh, start}
+use Rattle.registers.specs.Registers.{column, withContrast, withIndicatorValue, withAwaited, withPinLow, withHolder, withFresh, withBeside, start}
+use Rattle.registers.specs.declared.Beside.{Beside}
 use Rattle.registers.specs.declared.ModifyRead.{ModifyRead}
 use Rattle.registers.specs.declared.ModifyRead.the-variants.{Off, On}
 use Rattle.registers.specs.declared.Registers.{Registers}
@@ -31,7 +32,7 @@ use Rattle.controller.proofs.Readers.{restore-off-stale, pin-resets}
 
 -- ---- register by register
 
--- nine at their start value, the mark stale, nine as they were
+-- nine at their start value, the mark stale, nine as they were; and what the new command set has beside them stays
 abbrev pub afterReset : Sheet → Registers → Registers
 afterReset k r = record {
   page = 0;
@@ -53,6 +54,7 @@ afterReset k r = record {
   «modify_read» = Off;
   awaited = r .awaited;
   fresh = false;
+  beside = r .beside;
 }
 
 -- E0 leaves what is awaited
@@ -133,13 +135,13 @@ module _ (k : Sheet) (g : Sensible k) where
       all-obeyed ps (step k s (0, p .byte)) (still k s (p .instruction) (p .byte) g e (p .quiet (s .registers) ∙ h .quiet))
       ∙ ap (λ t. state (all-executed k (t .registers) ps) (t .memory)) (e .1)
 
-  -- what the pin leaves, low and then high
-  abbrev by-pin : ℕ → List ℕ → State
-  by-pin holder memory = state (withHolder (withPinLow (start k 0 true) false) holder) memory
+  -- what the pin leaves, low and then high, with this beside
+  abbrev by-pin : ℕ → Beside → List ℕ → State
+  by-pin holder beside memory = state (withBeside (withHolder (withPinLow (start k 0 true) false) holder) beside) memory
 
   -- where nothing is awaited
   reset-and-six : (s : State) → Ready k s
-      → run k s ((0, 0xa4) ∷ (0, 0xae) ∷ (0, 0xe2) ∷ (0, 0x28) ∷ (0, 0xa2) ∷ (0, 0xa0) ∷ (0, 0xa6) ∷ []) ≡ by-pin (s .registers .holder) (s .memory)
+      → run k s ((0, 0xa4) ∷ (0, 0xae) ∷ (0, 0xe2) ∷ (0, 0x28) ∷ (0, 0xa2) ∷ (0, 0xa0) ∷ (0, 0xa6) ∷ []) ≡ by-pin (s .registers .holder) (s .registers .beside) (s .memory)
   unfolding all-executed
   reset-and-six s h =
       let ps : List (OneByte k) = one-byte k (Entire false) 0xa4 refl (flag-given 0xa4 0xa5 false) (λ r. refl)
@@ -153,11 +155,14 @@ module _ (k : Sheet) (g : Sensible k) where
       all-obeyed ps s h ∙ rw (h .quiet, h .restartable .high) refl
 
   -- with the pin high and all else unknown: E3 spends a byte that is awaited, six bytes set what E2 leaves, and with E2 among them the
-  -- chip is as the pin leaves it
-  pub reset-as-pin : (s : State) → Restartable k s
-      → run k s ((0, 0xe3) ∷ (0, 0xa4) ∷ (0, 0xae) ∷ (0, 0xe2) ∷ (0, 0x28) ∷ (0, 0xa2) ∷ (0, 0xa0) ∷ (0, 0xa6) ∷ []) ≡ run k s ((4, 0) ∷ (5, 0) ∷ [])
+  -- chip is as the pin leaves it, but for the new set's three numbers: no byte of the old set moves these
+  pub reset-as-pin : (s : State) → Restartable k s → let t = run k s ((4, 0) ∷ (5, 0) ∷ []) in
+      run k s ((0, 0xe3) ∷ (0, 0xa4) ∷ (0, 0xae) ∷ (0, 0xe2) ∷ (0, 0x28) ∷ (0, 0xa2) ∷ (0, 0xa0) ∷ (0, 0xa6) ∷ [])
+      ≡ state (withBeside (t .registers) (s .registers .beside)) (t .memory)
   reset-as-pin s h =
       let e = spent-by k g s h (s .registers .awaited) refl in
+      let b = s .registers .beside in
       reset-and-six (step k s nopCycle) (e .1)
-      ∙ ap (λ v. by-pin (v .holder) (v .memory)) (e .2)
-      ∙ sym (pin-resets k g s (h .long) (h .ranged))
+      ∙ ap (λ x. by-pin (step k s nopCycle .registers .holder) (x .beside) (step k s nopCycle .memory)) (e .3)
+      ∙ ap (λ v. by-pin (v .holder) b (v .memory)) (e .2)
+      ∙ sym (ap (λ t. state (withBeside (t .registers) b) (t .memory)) (pin-resets k g s (h .long) (h .ranged)))

@@ -17,10 +17,10 @@ use Rattle.paper.proofs.Exactly.{Exactly}
 use Rattle.instructions.specs.Read.{readOf}
 use Rattle.instructions.specs.declared.instruction.Awaited.the-variants as awaited
 use Rattle.instructions.specs.declared.instruction.Instruction.the-variants.{IndicatorOn, IndicatorValue}
-use Rattle.registers.specs.Registers.{outside, withIndicator, withIndicatorValue, withAwaited, withPinLow, start}
+use Rattle.registers.specs.Registers.{outside, withIndicator, withIndicatorValue, withAwaited, withPinLow}
 use Rattle.registers.specs.declared.Registers.{Registers}
 use Rattle.controller.specs.Memory.{cellOf}
-use Rattle.controller.specs.Cycle.{statusRead, status, afterInstruction, malformed, carried, kept, answer}
+use Rattle.controller.specs.Cycle.{statusRead, status, afterLow, afterInstruction, malformed, carried, kept, answer}
 use Rattle.controller.specs.State.{State, state, step, number, Restartable, Ready}
 use Rattle.controller.proofs.Cells.{both-true, cell-icons, cell-whole, stored-same, stored-other}
 use Rattle.controller.proofs.Acting.{unheld, does, acts, writes}
@@ -59,8 +59,8 @@ module _ (k : Sheet) (s : State) (long : length (s .memory) ≡ 9 * k .width) (r
   unfolding carried
   status-answered = unheld k s 2 long ranged refl refl .0
 
-  -- pin low: every register takes its start value; memory and holder are kept
-  pub pin-low-starts : (number k s (4, 0) ≡ 0) × (step k s (4, 0) ≡ state (start k (s .registers .holder) true) (s .memory))
+  -- pin low: every register takes its start value, the three numbers of the new set too; memory, holder and command set are kept
+  pub pin-low-starts : (number k s (4, 0) ≡ 0) × (step k s (4, 0) ≡ state (afterLow k (s .registers)) (s .memory))
   unfolding carried kept
   pin-low-starts = let e = unheld k s 4 long ranged refl refl in does k s (4, 0) _ _ (e .0) (e .1)
 

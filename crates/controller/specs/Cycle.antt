@@ -10,13 +10,18 @@ use lib.Dec.{ltb, eqb}
 use Rattle.paper.specs.Refusal.{wrongSize, outOfRange, pinLow, unassigned, wrongCycle}
 use Rattle.paper.specs.Told.{Told}
 use Rattle.paper.specs.declared.sheet.Sheet.{Sheet}
-use Rattle.instructions.specs.Read.{readOf, assigned, nothingAwaited}
+use Rattle.instructions.specs.Read.{readOf, nothingAwaited}
+use Rattle.instructions.specs.Added.{readAdded, assignedIn}
+use Rattle.instructions.specs.declared.added.Added.{Added}
+use Rattle.instructions.specs.declared.added.CommandSet.{CommandSet}
+use Rattle.instructions.specs.declared.added.CommandSet.the-variants.{Old, New}
 use Rattle.instructions.specs.declared.instruction.Instruction.{Instruction}
-use Rattle.registers.specs.Registers.{column, withColumn, withHolder, withPinLow, withFresh, start, outside}
+use Rattle.registers.specs.Registers.{column, withColumn, withHolder, withPinLow, withFresh, withSet, start, outside}
 use Rattle.registers.specs.declared.ModifyRead.{ModifyRead}
 use Rattle.registers.specs.declared.ModifyRead.the-variants.{Off, On}
 use Rattle.registers.specs.declared.Registers.{Registers}
 use Rattle.controller.specs.Execute.{executed, endsReading}
+use Rattle.controller.specs.Added.{executedAdded}
 use Rattle.controller.specs.Memory.{stored, loaded, advanced}
 use Rattle.controller.specs.declared.cycle.Answer.{Answer}
 use Rattle.controller.specs.declared.cycle.Answer.the-variants.{Done, Status, Read, Refused}
@@ -60,6 +65,10 @@ abbrev pub afterRead : ℕ → Registers → ModifyRead → ℕ → Registers
 afterRead w r Off b = written w r b
 afterRead w r (On c) b = withHolder r b
 
+-- pin low: every register takes its start value; the holder is kept, and so is the command set
+abbrev pub afterLow : Sheet → Registers → Registers
+afterLow k r = withSet (start k (r .holder) true) (r .beside .set)
+
 -- status: bit 6 is 1 for ADC 0; bit 5 is 1 for display off; bit 4 is 1 while the pin is low; the rest 0
 unfoldable pub status : Registers → ℕ
 status r = cond (r .adc) 0 64 + cond (r .on) 0 32 + cond (r .«pin_low») 16 0
@@ -76,15 +85,28 @@ instructedBy k r n none = refusedWith n
 abbrev pub instructed : Sheet → Registers → Told Instruction → Outcome
 instructed k r t = instructedBy k r (t .number) (t .value)
 
+-- and one of the new set, which leaves the mark
+abbrev pub instructedAddedBy : Registers → ℕ → Option Added → Outcome
+instructedAddedBy r n (some i) = done (executedAdded r i)
+instructedAddedBy r n none = refusedWith n
+
+abbrev pub instructedAdded : Registers → Told Added → Outcome
+instructedAdded r t = instructedAddedBy r (t .number) (t .value)
+
+-- an instruction byte is one of the set that is in force
+abbrev pub instructedIn : Sheet → Registers → ℕ → CommandSet → Outcome
+instructedIn k r value Old = instructed k r (readOf k (r .awaited) value)
+instructedIn k r value New = instructedAdded r (readAdded (r .awaited) value)
+
 -- kinds 0 instruction, 1 data write, 2 status read, 3 data read, 4 reset pin low, 5 reset pin high. A data read answers the mark that
 -- it finds, and after it the mark is fresh; after a data write and pin low it is stale
 unfoldable pub carried : Sheet → Registers → List ℕ → ℕ → ℕ → Outcome
 carried k r m kind value =
-    cond (eqb kind 0) (instructed k r (readOf k (r .awaited) value))
+    cond (eqb kind 0) (instructedIn k r value (r .beside .set))
     (cond (eqb kind 1) (done (withFresh (written (k .width) r value) false))
     (cond (eqb kind 2) (statusRead (status r))
     (cond (eqb kind 3) (dataRead (r .holder) (r .fresh) (withFresh (afterRead (k .width) r (r .«modify_read») (loaded (k .width) m (r .page) (r .column .0))) true))
-    (cond (eqb kind 4) (done (start k (r .holder) true))
+    (cond (eqb kind 4) (done (afterLow k r))
     (done (withPinLow r false))))))
 
 -- only a data write changes the memory
@@ -110,9 +132,9 @@ refusal k n r kind value =
     (cond (heldLow r kind) pinLow
     0)))
 
--- an instruction byte unassigned and nothing awaited
+-- an instruction byte unassigned in the set that is in force, and nothing awaited
 unfoldable pub unread : Registers → ℕ → ℕ → Bool
-unread r kind value = eqb kind 0 && (nothingAwaited (r .awaited) && not (assigned value))
+unread r kind value = eqb kind 0 && (nothingAwaited (r .awaited) && not (assignedIn (r .beside .set) value))
 
 -- the number that a cycle is refused with, 0 for none: 1, 2, 9, 3, 4 in this order. `proofs/Unique.antt` shows that `answer` has it
 unfoldable pub cycleNumber : Sheet → ℕ → Registers → ℕ → ℕ → ℕ

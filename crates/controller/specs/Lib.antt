@@ -1,4 +1,5 @@
 pub mod Execute
+pub mod Added
 pub mod Memory
 pub mod Cycle
 pub mod Run

@@ -7,6 +7,8 @@ use mathlib.Core.List.{List, [], _∷_}
 use lib.Dec.{eqb}
 use Rattle.paper.specs.declared.sheet.Sheet.{Sheet}
 use Rattle.instructions.specs.Read.{readOf}
+use Rattle.instructions.specs.declared.added.CommandSet.{CommandSet}
+use Rattle.instructions.specs.declared.added.CommandSet.the-variants.{Old, New}
 use Rattle.instructions.specs.declared.instruction.Instruction.{Instruction}
 use Rattle.controller.specs.Execute.{endsReading}
 use Rattle.controller.specs.Run.{BusCycle}
@@ -19,10 +21,15 @@ abbrev pub instructionCounts : Option Instruction → Option Bool
 instructionCounts (some i) = cond (endsReading i) (some false) none
 instructionCounts none = none
 
+-- no instruction of the new command set is on the list
+abbrev pub countsIn : Sheet → State → BusCycle → CommandSet → Option Bool
+countsIn k s x Old = instructionCounts (readOf k (s .registers .awaited) (x .1) .value)
+countsIn k s x New = none
+
 -- by its kind; a status read and pin high don't count
 unfoldable pub kindCounts : Sheet → State → BusCycle → Option Bool
 kindCounts k s x =
-    cond (eqb (x .0) 0) (instructionCounts (readOf k (s .registers .awaited) (x .1) .value))
+    cond (eqb (x .0) 0) (countsIn k s x (s .registers .beside .set))
     (cond (eqb (x .0) 1) (some false)
     (cond (eqb (x .0) 2) none
     (cond (eqb (x .0) 3) (some true)

@@ -9,7 +9,9 @@ use lib.ListN.{length}
 use Rattle.paper.specs.declared.sheet.Sheet.{Sheet}
 use Rattle.instructions.specs.declared.instruction.Awaited.{Awaited}
 use Rattle.instructions.specs.declared.instruction.Awaited.the-variants as awaited
-use Rattle.registers.specs.Registers.{column, start, withPage, withColumn, withHolder, withContrast, withIndicator, withIndicatorValue, withAwaited, withFresh, outside}
+use Rattle.instructions.specs.declared.added.CommandSet.{CommandSet}
+use Rattle.instructions.specs.declared.added.CommandSet.the-variants.{Old}
+use Rattle.registers.specs.Registers.{column, start, withPage, withColumn, withHolder, withContrast, withIndicator, withIndicatorValue, withAwaited, withFresh, withSet, outside}
 use Rattle.registers.specs.declared.Registers.{Registers}
 use Rattle.controller.specs.Cycle.{answer, memoryAfter}
 use Rattle.controller.specs.Run.{BusCycle, runBy, numbersBy}
@@ -24,6 +26,10 @@ state r m = record { registers = r; memory = m }
 -- the chip at power-up, with the memory as lent
 abbrev pub poweredUp : Sheet → List ℕ → State
 poweredUp k m = state (start k 0 false) m
+
+-- and in a command set
+abbrev pub poweredUpIn : Sheet → CommandSet → List ℕ → State
+poweredUpIn k set m = state (withSet (start k 0 false) set) m
 
 -- the registers after an answer: where it gives none they stay
 abbrev pub afterBy : Registers → Option Registers → Registers
@@ -49,11 +55,12 @@ numbers k s xs = numbersBy (step k) (number k) s xs
 
 -- ---- demand 3's premises
 
--- the reset pin high and all else unknown: memory of nine pages, registers in range
+-- the reset pin high and all else unknown: memory of nine pages, registers in range. Demand 3 speaks of the old command set
 pub record Restartable (k : Sheet) (s : State) : Type 0 where
   pub long : length (s .memory) ≡ 9 * k .width
   pub ranged : outside k (s .registers) ≡ false
   pub high : s .registers .«pin_low» ≡ false
+  pub old : s .registers .beside .set ≡ Old
 
 -- the reset pin high and no second byte awaited
 pub record Ready (k : Sheet) (s : State) : Type 0 where
@@ -79,3 +86,6 @@ abbrev pub indicatorAwaited : Awaited → Bool
 indicatorAwaited awaited.Nothing = false
 indicatorAwaited awaited.Contrast = false
 indicatorAwaited awaited.Indicator = true
+indicatorAwaited awaited.Com0 = false
+indicatorAwaited awaited.Duty = false
+indicatorAwaited awaited.Inversion = false

@@ -5,12 +5,17 @@ ghost use Prim.Native.Nat.{_+_, _*_, _≤_};
 ghost use lib.ListN.{length};
 ghost use Rattle.paper.specs.Sheet.{Sensible, sheet0713, sheet0717};
 ghost use Rattle.instructions.specs.Read.{readOf};
-ghost use Rattle.controller.specs.Cycle.{status, malformed, refusal, written, afterRead, instructed, carried, kept, outcome, Cycled};
+ghost use Rattle.instructions.specs.Added.{readAdded};
+ghost use Rattle.controller.specs.Cycle.{status, malformed, refusal, written, afterRead, afterLow, instructed, instructedAdded, instructedIn, carried, kept, outcome, Cycled};
+use crate::added::execute_added;
 use crate::execute::ends_reading;
 use crate::execute::execute;
 use crate::memory::advance;
 use crate::memory::load;
 use crate::memory::store;
+use instructions::added::AddedReading;
+use instructions::added::CommandSet;
+use instructions::added::read_added;
 use instructions::read::Reading;
 use instructions::read::read_for;
 use paper::refusal::OUT_OF_RANGE;
@@ -27,6 +32,7 @@ use registers::setters::with_column;
 use registers::setters::with_fresh;
 use registers::setters::with_holder;
 use registers::setters::with_pin_low;
+use registers::setters::with_set;
 use registers::start::started;
 
 // What a cycle answers: the registers after it; the status byte; the registers after it, the byte read and whether it is fresh; or a
@@ -73,6 +79,16 @@ fn after_read(width: usize, registers: Registers, mode: ModifyRead, byte: u8) ->
     }
 }
 
+// After pin low: every register at its start value, the holder and the command set as they were.
+fn after_low(chip: Sheet, registers: Registers) -> Registers
+    ensures { λ n. ⌜ n ≡ afterLow chip registers ⌝ }
+{
+    let beside = registers.beside;
+    let set = beside.set;
+    with_set(started(chip, registers.holder, true), set)
+}
+
+// An instruction byte of the old command set.
 fn instruct(chip: Sheet, registers: Registers, byte: u8) -> Answer
     ensures { λ a. ⌜ outcome a ≡ instructed chip registers (readOf chip (registers .awaited) byte) ⌝ }
 {
@@ -83,6 +99,29 @@ fn instruct(chip: Sheet, registers: Registers, byte: u8) -> Answer
             Answer::Done(with_fresh(execute(chip, registers, instruction), fresh))
         }
         Reading::Unread(number) => Answer::Refused(number),
+    }
+}
+
+// An instruction byte of the new one.
+fn instruct_added(registers: Registers, byte: u8) -> Answer
+    ensures { λ a. ⌜ outcome a ≡ instructedAdded registers (readAdded (registers .awaited) byte) ⌝ }
+{
+    let awaited = registers.awaited;
+    match read_added(awaited, byte) {
+        AddedReading::ReadAs(added) => Answer::Done(execute_added(registers, added)),
+        AddedReading::Unread(number) => Answer::Refused(number),
+    }
+}
+
+// An instruction byte, of the set that is in force.
+fn instruct_in(chip: Sheet, registers: Registers, byte: u8) -> Answer
+    ensures { λ a. ⌜ outcome a ≡ instructedIn chip registers byte (registers .beside .set) ⌝ }
+{
+    let beside = registers.beside;
+    let set = beside.set;
+    match set {
+        CommandSet::Old => instruct(chip, registers, byte),
+        CommandSet::New => instruct_added(registers, byte),
     }
 }
 
@@ -123,7 +162,7 @@ fn carry_out(chip: Sheet, registers: Registers, memory: &mut [u8], kind: u8, val
 {
     let width = chip.width;
     if kind == 0 {
-        return instruct(chip, registers, value);
+        return instruct_in(chip, registers, value);
     }
     if kind == 1 {
         store(width, &mut *memory, registers.page, registers.column, value);
@@ -139,7 +178,7 @@ fn carry_out(chip: Sheet, registers: Registers, memory: &mut [u8], kind: u8, val
         return Answer::Read(next, registers.holder, registers.fresh);
     }
     if kind == 4 {
-        return Answer::Done(started(chip, registers.holder, true));
+        return Answer::Done(after_low(chip, registers));
     }
     Answer::Done(with_pin_low(registers, false))
 }

@@ -1,5 +1,6 @@
 // A good job there and back: taken apart, its cycles written as text, the text read, and a job written from what was read and its
 // pictures.
+use instructions::added::CommandSet;
 use jobs::header::Header;
 use jobs::header::Job;
 use jobs::header::read_header;
@@ -73,17 +74,25 @@ fn read_again(cycles: &[u8], text: &mut [u8], read: &mut [u8]) -> usize
     read_bytes(read_text(&text[0..n], read))
 }
 
-// Whether the job of some cycles and pictures is the file.
-fn is_job(file: &[u8], cycles: &[u8], count: usize, pictures: &[u8], job: &mut [u8]) -> bool
+// Whether the job of a command set, some cycles and pictures is the file.
+fn is_job(
+    file: &[u8],
+    set: CommandSet,
+    cycles: &[u8],
+    count: usize,
+    pictures: &[u8],
+    job: &mut [u8],
+) -> bool
     requires { ⌜ length (now job) ≡ 34384 ⌝ }
 {
-    let n = bytes(write_job(cycles, count, pictures, job), 34384);
+    let n = bytes(write_job(set, cycles, count, pictures, job), 34384);
     check::same(&job[0..n], file)
 }
 
 // Whether a file of these parts comes back.
 fn by_text(
     file: &[u8],
+    set: CommandSet,
     cycles: &[u8],
     count: usize,
     pictures: &[u8],
@@ -94,7 +103,7 @@ fn by_text(
     requires { ⌜ (length (now text) ≡ 80000) × (length (now read) ≡ 32000) × (length (now job) ≡ 34384) ⌝ }
 {
     let n = read_again(cycles, text, read);
-    is_job(file, &read[0..n], count, pictures, job)
+    is_job(file, set, &read[0..n], count, pictures, job)
 }
 
 // Whether a good job comes back.
@@ -102,11 +111,13 @@ fn comes_back(file: &[u8], job: Job) -> bool
     requires { ⌜ Holds (now file) job ⌝ }
 {
     let end = 8 + 2 * job.cycles;
+    let set = job.set;
     let mut text = text_room();
     let mut read = cycles_room();
     let mut made = job_room();
     by_text(
         file,
+        set,
         &file[8..end],
         job.pictures,
         &file[end..],

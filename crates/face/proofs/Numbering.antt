@@ -49,12 +49,12 @@ instruction-again Nop = refl
 -- ---- and back
 
 -- the numbers below k are done: n is k, or k is done too
-next : (P : Instruction → Type 0) (k n : ℕ) {x y : Instruction} → k ≤ n → (n ≡ k → P x) → (suc k ≤ n → P y) → P (cond (eqb n k) x y)
+pub next : {I : Type 0} (P : I → Type 0) (k n : ℕ) {x y : I} → k ≤ n → (n ≡ k → P x) → (suc k ≤ n → P y) → P (cond (eqb n k) x y)
 next P k n {x} {y} l f g = split (eqb n k)
     (λ t. subst (λ (b : Bool). P (cond b x y)) (sym t) (f (eqb-true n k t)))
     (λ t. let h = eqb-false n k t in subst (λ (b : Bool). P (cond b x y)) (sym t) (g (omega arith)))
 
-and-true : (a b : Bool) → a ≡ true → (a && b) ≡ false → b ≡ false
+pub and-true : (a b : Bool) → a ≡ true → (a && b) ≡ false → b ≡ false
 and-true true b e h = h
 and-true false b e h = absurd (subst (λ (t : Bool). cond t ⊥ (Unit {0})) e tt)
 

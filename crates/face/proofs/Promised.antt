@@ -1,7 +1,7 @@
 -- What the promises fix, for any chip whose sheet makes sense. Two results that a promise admits are equal, out-parameters and lent bytes included, since the promise of
 -- the crate below fixes its answer; each call answers exactly the number named here, and 0 exactly if nothing is refused.
 -- Assumes nothing.
-use Prim.Native.Nat.{ℕ, _+_, _*_, _≤_, _<_}
+use Prim.Native.Nat.{ℕ, zero, suc, _+_, _*_, _≤_, _<_}
 use mathlib.Core.Path.{_≡_, _∙_, refl, ap, sym, subst}
 use mathlib.Core.Logic.{_≢_, inl, inr, ⊎-elim}
 use mathlib.Core.Bool.{false, cond, not, _&&_, _||_}
@@ -10,7 +10,7 @@ use mathlib.Core.List.{List}
 use native.Mathlib.Omega.{arith}
 use lib.ListN.{length}
 use lib.Dec.{T, ltb}
-use borrow.Author.Tests.{ltb-false, le-ltb}
+use borrow.Author.Tests.{lt-ltb, ltb-false, le-ltb}
 use Rattle.paper.specs.Refusal.{wrongSize, outOfRange, outsideField}
 use Rattle.paper.specs.Told.{Told, given, refused}
 use Rattle.paper.specs.Sheet.{Sensible}
@@ -20,22 +20,18 @@ use Rattle.paper.proofs.Cases.{split, less}
 use Rattle.paper.proofs.Exactly.{Exactly, then, both, same-number, past, only}
 use Rattle.paper.proofs.Either.{or-left, or-right}
 use Rattle.paper.proofs.Answering.{answers-one, if-split, if-both, test-number, number-number}
-use Rattle.instructions.specs.Read.{toldReading, assigned, nothingAwaited, IsRead}
-use Rattle.instructions.specs.Write.{toldWriting, OutsideField}
-use Rattle.instructions.specs.declared.instruction.Awaited.{Awaited}
-use Rattle.instructions.specs.declared.instruction.Awaited.the-variants as awaited
-use Rattle.instructions.specs.declared.instruction.Instruction.{Instruction}
-use Rattle.instructions.specs.declared.read.Reading.{Reading}
-use Rattle.instructions.specs.declared.read.Reading.the-variants as reading
+use Rattle.instructions.specs.Read.{toldReading, assigned, nothingAwaited}
+use Rattle.instructions.specs.Added.{ofOther}
+use Rattle.instructions.specs.declared.added.CommandSet.the-variants.{Old}
+use Rattle.instructions.specs.Write.{writeOf, toldWriting, OutsideField, IsWritten}
 use Rattle.instructions.specs.declared.write.Writing.{Writing}
-use Rattle.instructions.proofs.Unique.{read-one, written-one, read-some, unread-4, number-written-6}
-use Rattle.instructions.proofs.Fits.{Fits}
+use Rattle.instructions.proofs.Unique.{read-one, written-one, number-read, number-written-6}
 use Rattle.registers.specs.Registers.{outside}
 use Rattle.registers.specs.declared.Registers.{Registers}
-use Rattle.registers.proofs.InRange.{ranged, ranges, powered-one, powered-ranged}
+use Rattle.registers.proofs.InRange.{powered-one, powered-inside}
 use Rattle.controller.specs.State.{afterBy}
 use Rattle.controller.specs.Cycle.{outcome, cycleNumber}
-use Rattle.controller.proofs.Ranges.{stays-ranged}
+use Rattle.controller.proofs.Keeping.{stays-inside}
 use Rattle.controller.proofs.Unique.{cycled-one, number-exactly}
 use Rattle.glass.specs.Frame.{toldShown, refusal}
 use Rattle.glass.specs.Power.{toldPower}
@@ -54,7 +50,7 @@ use Rattle.planner.proofs.Promised.{first-one, first-1, length-one, update-one,
 use Rattle.state.specs.Packed.{flagByte, packed, unpacked, awaitedOf}
 use Rattle.state.specs.Unfit.{unfit, unfitNumber}
 use Rattle.face.specs.Chip.{PowerUpOut, CycleOut, FrameOut, PowerOut, VoltageOut, VoltageOut0717}
-use Rattle.face.specs.Bytes.{named, WrittenIf, ReadOut, WriteOut}
+use Rattle.face.specs.Bytes.{named, WrittenBy, ReadOut, WriteOut}
 use Rattle.face.specs.Pictures.{FirstOut, LengthOut, UpdateOut, RedrawOut}
 use Rattle.state.proofs.Accepting.{unfit-some, Accepted, packed-accepted, accepted-left}
 
@@ -68,7 +64,7 @@ power-up-0 f = f .number
 
 pub power-up-accepted : (k : Sheet) → Sensible k → {s : List ℕ} {r : ℕ} → PowerUpOut k s r → Accepted k s
 power-up-accepted k g f =
-    subst (Accepted k) (sym (f .left)) (packed-accepted k (f .registers) (ranged k _ (powered-ranged k g (f .registers) (f .promised))))
+    subst (Accepted k) (sym (f .left)) (packed-accepted k (f .registers) (powered-inside k g (f .registers) (f .promised)))
 
 -- ---- one cycle
 
@@ -102,7 +98,7 @@ module _ (k : Sheet) (s m : List ℕ) (kind value read byte fresh : ℕ) where
       (λ t p. accepted-left k s (outcome (f .answer) .registers) a
       (λ q e. subst (λ (x : Option Registers). outside k (afterBy (unpacked s) x) ≡ false) e
       (subst (λ o. outside k (afterBy (unpacked s) (o .registers)) ≡ false) (sym (p .tells))
-      (ranged k _ (stays-ranged k g (unpacked s) m kind value (ranges k (unpacked s) (a .1))))))
+      (stays-inside k g (unpacked s) m kind value (a .1))))
       (f .told .state-left))
 
 -- ---- the glass
@@ -174,23 +170,27 @@ module _ (resistor contrast before : ℕ) where
 
 -- ---- instructions by number
 
+-- so above 2: 3 to 5 await a byte of the new set, and above 5 nothing has the number
+awaited-by : (aw n : ℕ) → cond (ltb 5 aw) outOfRange (cond (ofOther Old (awaitedOf aw)) outOfRange n) ≡ cond (ltb 2 aw) outOfRange n
+awaited-by zero n = refl
+awaited-by (suc zero) n = refl
+awaited-by (suc (suc zero)) n = refl
+awaited-by (suc (suc (suc zero))) n = refl
+awaited-by (suc (suc (suc (suc zero)))) n = refl
+awaited-by (suc (suc (suc (suc (suc zero))))) n = refl
+awaited-by (suc (suc (suc (suc (suc (suc x)))))) n = rw (lt-ltb 5 (suc (suc (suc (suc (suc (suc x)))))) (omega arith), lt-ltb 2 (suc (suc (suc (suc (suc (suc x)))))) (omega arith))
+
 module _ (k : Sheet) (aw byte : ℕ) (before : ℕ × ℕ) where
   pub read-out-one : {a b : ℕ × ℕ} {r r′ : ℕ} → ReadOut k aw byte before a r → ReadOut k aw byte before b r′ → (a ≡ b) × (r ≡ r′)
   read-out-one f g =
-      answers-one (ap toldReading (if-both (ltb 2 aw) (f .promised) (g .promised) (λ p q. p ∙ sym q) (λ p q. read-one p q))) (f .answers) (g .answers)
-
-  -- the reader's number: 4 where nothing is awaited and the byte is unassigned
-  unassigned-number : byte < 256 → (w : Awaited) (a : Reading) → IsRead k w byte a → toldReading a .number ≡ cond (nothingAwaited w && not (assigned byte)) 4 0
-  unassigned-number h awaited.Nothing (reading.ReadAs i) p = rw (read-some k byte h i (sym (ap (λ t. t .value) (p .tells))))
-  unassigned-number h awaited.Contrast (reading.ReadAs i) p = refl
-  unassigned-number h awaited.Indicator (reading.ReadAs i) p = refl
-  unassigned-number h w (reading.Unread n) p = let u = unread-4 k byte h w n p in rw (u .1, u .2) (u .0)
+      answers-one (ap toldReading (if-both (ltb 5 aw) (f .promised) (g .promised) (λ p q. p ∙ sym q) (λ p q. read-one p q))) (f .answers) (g .answers)
 
   module _ (h : byte < 256) {a : ℕ × ℕ} {r : ℕ} (f : ReadOut k aw byte before a r) where
     pub read-number : r ≡ cond (ltb 2 aw) outOfRange (cond (nothingAwaited (awaitedOf aw) && not (assigned byte)) 4 0)
-    read-number = f .answers .number ∙ if-split (ltb 2 aw) (f .promised)
+    read-number = f .answers .number ∙ if-split (ltb 5 aw) (f .promised)
         (λ t p. ap (λ a. toldReading a .number) p ∙ rw t refl)
-        (λ t p. unassigned-number h (awaitedOf aw) (f .answer) p ∙ rw t refl)
+        (λ t p. ap (λ x. x .number) (p .tells) ∙ number-read byte h k (awaitedOf aw) .0 ∙ rw t refl)
+        ∙ awaited-by aw _
 
     pub read-0 : Exactly (r ≡ 0) ((aw ≤ 2) × ((nothingAwaited (awaitedOf aw) && not (assigned byte)) ≡ false))
     read-0 =
@@ -199,38 +199,44 @@ module _ (k : Sheet) (aw byte : ℕ) (before : ℕ × ℕ) where
         (both (ltb-false 2 aw, le-ltb 2 aw) (only (nothingAwaited (awaitedOf aw) && not (assigned byte)) 4 (λ e. omega arith))))
 
 -- a number and a value name an instruction, and its value is inside its field
-abbrev pub Writable : Sheet → Option Instruction → Type 0
-Writable k (some i) = Fits k i
-Writable k none = ⊥
+abbrev pub Writable : {I : Type 0} → (I → Told ℕ) → Option I → Type 0
+Writable write (some i) = write i .number ≡ 0
+Writable write none = ⊥
 
 -- they name none, or a value outside its field
-abbrev pub Unwritable : Sheet → Option Instruction → Type 0
-Unwritable k (some i) = OutsideField k i
-Unwritable k none = Unit {0}
+abbrev pub Unwritable : {I : Type 0} → (I → Type 0) → Option I → Type 0
+Unwritable Outside (some i) = Outside i
+Unwritable Outside none = Unit {0}
+
+-- what a writer promises of what is named, for any writer
+module _ {I : Type 0} (Is : I → Writing → Type 0) where
+  pub written-by-one : ((i : I) (a b : Writing) → Is i a → Is i b → a ≡ b) → (x : Option I) (a b : Writing) → WrittenBy Is x a → WrittenBy Is x b → a ≡ b
+  written-by-one one (some i) a b p q = one i a b p q
+  written-by-one one none a b p q = p ∙ sym q
+
+  module _ (write : I → Told ℕ) (tells : (i : I) (a : Writing) → Is i a → toldWriting a ≡ write i) (a : Writing) (r : ℕ) (e : r ≡ toldWriting a .number) where
+    pub writable : (x : Option I) → WrittenBy Is x a → Exactly (r ≡ 0) (Writable write x)
+    writable (some i) p = same-number (e ∙ ap (λ t. t .number) (tells i a p))
+    writable none p = (λ z. let n : outsideField ≡ 0 = sym (ap (λ a. toldWriting a .number) p) ∙ sym e ∙ z in omega arith, λ z. absurd z)
+
+    pub unwritable : (Outside : I → Type 0) → ((i : I) → Exactly (write i .number ≡ outsideField) (Outside i)) → (x : Option I) → WrittenBy Is x a
+        → Exactly (r ≡ outsideField) (Unwritable Outside x)
+    unwritable Outside six (some i) p = then (same-number (e ∙ ap (λ t. t .number) (tells i a p))) (six i)
+    unwritable Outside six none p = (λ z. tt, λ z. e ∙ ap (λ a. toldWriting a .number) p)
 
 module _ (k : Sheet) (number value byte : ℕ) where
-  written-if-one : (x : Option Instruction) (a b : Writing) → WrittenIf k x a → WrittenIf k x b → a ≡ b
-  written-if-one (some i) a b p q = written-one p q
-  written-if-one none a b p q = p ∙ sym q
-
   pub write-out-one : {a b r r′ : ℕ} → WriteOut k number value byte a r → WriteOut k number value byte b r′ → (a ≡ b) × (r ≡ r′)
   write-out-one f g =
-      answers-one (ap toldWriting (written-if-one (named number value) (f .answer) (g .answer) (f .promised) (g .promised))) (f .answers) (g .answers)
+      answers-one (ap toldWriting (written-by-one (IsWritten k) (λ i a b p q. written-one p q) (named number value) (f .answer) (g .answer) (f .promised) (g .promised)))
+      (f .answers) (g .answers)
 
-  writable : (x : Option Instruction) (a : Writing) (r : ℕ) → WrittenIf k x a → r ≡ toldWriting a .number → Exactly (r ≡ 0) (Writable k x)
-  writable (some i) a r p e = same-number (e ∙ ap (λ t. t .number) (p .tells))
-  writable none a r p e = (λ z. let n : outsideField ≡ 0 = sym (ap (λ a. toldWriting a .number) p) ∙ sym e ∙ z in omega arith, λ z. absurd z)
-
-  pub write-0 : {a r : ℕ} → WriteOut k number value byte a r → Exactly (r ≡ 0) (Writable k (named number value))
-  write-0 {r = r} f = writable (named number value) (f .answer) r (f .promised) (f .answers .number)
-
-  unwritable : (x : Option Instruction) (a : Writing) (r : ℕ) → WrittenIf k x a → r ≡ toldWriting a .number → Exactly (r ≡ outsideField) (Unwritable k x)
-  unwritable (some i) a r p e = then (same-number (e ∙ ap (λ t. t .number) (p .tells))) (number-written-6 k i)
-  unwritable none a r p e = (λ z. tt, λ z. e ∙ ap (λ a. toldWriting a .number) p)
+  pub write-0 : {a r : ℕ} → WriteOut k number value byte a r → Exactly (r ≡ 0) (Writable (writeOf k) (named number value))
+  write-0 {r = r} f = writable (IsWritten k) (writeOf k) (λ i a p. p .tells) (f .answer) r (f .answers .number) (named number value) (f .promised)
 
   -- 6 exactly if they name no instruction, or its value is outside its field
-  pub write-6 : {a r : ℕ} → WriteOut k number value byte a r → Exactly (r ≡ outsideField) (Unwritable k (named number value))
-  write-6 {r = r} f = unwritable (named number value) (f .answer) r (f .promised) (f .answers .number)
+  pub write-6 : {a r : ℕ} → WriteOut k number value byte a r → Exactly (r ≡ outsideField) (Unwritable (OutsideField k) (named number value))
+  write-6 {r = r} f =
+      unwritable (IsWritten k) (writeOf k) (λ i a p. p .tells) (f .answer) r (f .answers .number) (OutsideField k) (number-written-6 k) (named number value) (f .promised)
 
 -- ---- pictures
 

@@ -50,7 +50,7 @@ reading-silent : (a : Reading) → Silent (toldReading a)
 reading-silent (reading.ReadAs i) = inl refl
 reading-silent (reading.Unread n) = inr refl
 
-writing-silent : (a : Writing) → Silent (toldWriting a)
+pub writing-silent : (a : Writing) → Silent (toldWriting a)
 writing-silent (writing.WrittenAs b) = inl refl
 writing-silent (writing.Unwritten n) = inr refl
 

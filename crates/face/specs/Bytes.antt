@@ -124,18 +124,21 @@ toldNamed Unknown = none
 
 -- ---- the promises
 
--- an awaited byte above 2 is refused with 2
+-- an awaited byte that is none of the six is refused with 2; one of the new set is by the reader
 abbrev pub ReadOn : Sheet → ℕ → ℕ → Reading → Type 0
-ReadOn k awaited byte a = If (ltb 2 awaited) (a ≡ reading.Unread outOfRange) (IsRead k (awaitedOf awaited) byte a)
+ReadOn k awaited byte a = If (ltb 5 awaited) (a ≡ reading.Unread outOfRange) (IsRead k (awaitedOf awaited) byte a)
 
 -- a byte read as number and value: refused with 2, 4
 abbrev pub ReadOut : Sheet → ℕ → ℕ → ℕ × ℕ → ℕ × ℕ → ℕ → Type 0
 ReadOut k awaited byte out out′ r = Through (ReadOn k awaited byte) toldReading numbered out out′ r
 
 -- what is no instruction is refused with 6
+abbrev pub WrittenBy : {I : Type 0} → (I → Writing → Type 0) → Option I → Writing → Type 0
+WrittenBy Is (some i) a = Is i a
+WrittenBy Is none a = a ≡ writing.Unwritten outsideField
+
 abbrev pub WrittenIf : Sheet → Option Instruction → Writing → Type 0
-WrittenIf k (some i) a = IsWritten k i a
-WrittenIf k none a = a ≡ writing.Unwritten outsideField
+WrittenIf k x a = WrittenBy (IsWritten k) x a
 
 -- a number and a value written as a byte: refused with 6
 abbrev pub WriteOut : Sheet → ℕ → ℕ → ℕ → ℕ → ℕ → Type 0

@@ -1,3 +1,4 @@
 pub mod Chip
 pub mod Bytes
+pub mod Added
 pub mod Pictures

@@ -7,6 +7,7 @@ use mathlib.Core.List.{List, [], _∷_}
 use native.Mathlib.Omega.{arith}
 use lib.ListN.{length}
 use Rattle.instructions.specs.Read.{classOf, roomIn, readBy, readFirst}
+use Rattle.registers.specs.Beside.{outsideBeside}
 use Rattle.registers.specs.Registers.{outside}
 use Rattle.controller.specs.Memory.{cellOf, isCell, stored, loaded, advanced}
 use Rattle.controller.specs.Cycle.{written, status, carried, kept, refusal, answer, memoryAfter}
@@ -40,7 +41,7 @@ page-8-0 = refl
 -- ---- the KS0717
 
 figures0717 : Figures0717
-unfolding classOf roomIn readBy readFirst outside cellOf isCell stored advanced written carried kept refusal answer memoryAfter shown differs differing gaps gapCost pageLength lengthFrom updateLength lineOf numerator0717
+unfolding classOf roomIn readBy readFirst outsideBeside outside cellOf isCell stored advanced written carried kept refusal answer memoryAfter shown differs differing gaps gapCost pageLength lengthFrom updateLength lineOf numerator0717
 figures0717 = record {
   resistor-up = refl;
   resistor-low = refl;
@@ -59,7 +60,7 @@ figures0717 = record {
 -- ---- all of them
 
 pub figures : Figures
-unfolding classOf roomIn readBy readFirst outside cellOf isCell stored loaded advanced written status carried kept refusal answer memoryAfter shown differs onIt address emitBy joins join joinIf runs wantedBytes stretchOf pageWork workFrom update updateStream differing gaps gapCost pageLength lengthFrom updateLength lineOf numerator
+unfolding classOf roomIn readBy readFirst outsideBeside outside cellOf isCell stored loaded advanced written status carried kept refusal answer memoryAfter shown differs onIt address emitBy joins join joinIf runs wantedBytes stretchOf pageWork workFrom update updateStream differing gaps gapCost pageLength lengthFrom updateLength lineOf numerator
 figures = record {
   status-up = refl;
   status-low = refl;

@@ -1,3 +1,4 @@
 pub mod FiguresHold
 pub mod WorkedHolds
 pub mod RecordedHolds
+pub mod Ks0759Holds

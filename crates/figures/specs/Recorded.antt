@@ -7,6 +7,7 @@ use mathlib.Core.Path.{_≡_}
 use mathlib.Core.Option.{none, some}
 use mathlib.Core.List.{List, [], _∷_}
 use lib.ListN.{length, drop, replicate}
+use Rattle.instructions.specs.declared.added.CommandSet.the-variants.{Old}
 use Rattle.bus.specs.Cycles.{cyclesOf}
 use Rattle.recorder.specs.Text.{cyclesText, cyclesIn, readRefusal, ToldLines, toldBy}
 use Rattle.recorder.specs.Job.{headerBytes, jobBytes}
@@ -35,7 +36,7 @@ pub record Recorded : Type 0 where
   pub text : cyclesText (cyclesOf cycles) ≡ ascii "i b2\ni 10\ni 05\nd 7e\nd 81\ni 05\nr\nr\ni 30\n"
   pub text-size : length (cyclesText (cyclesOf cycles)) ≡ 39
   pub letters : cyclesText ((0, 0x0a) ∷ (1, 0xff) ∷ (2, 0) ∷ (3, 0) ∷ (4, 0) ∷ (5, 0) ∷ []) ≡ ascii "i 0a\nd ff\ns\nr\nl\nh\n"
-  pub file : jobBytes (cyclesOf cycles) 0 [] ≡ job
+  pub file : jobBytes Old (cyclesOf cycles) 0 [] ≡ job
   pub header : headerBytes 300 2 ≡ 0x2c ∷ 0x01 ∷ 0x08 ∷ 0x00 ∷ 0x02 ∷ 0x00 ∷ 0x60 ∷ 0x02 ∷ []
   -- read
   pub cycles-again : cyclesIn (ascii "i b2\ni 10\ni 05\nd 7e\nd 81\ni 05\nr\nr\ni 30\n") ≡ cyclesOf cycles

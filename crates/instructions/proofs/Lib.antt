@@ -3,5 +3,6 @@ pub mod Table
 pub mod Fields
 pub mod ReadBack
 pub mod Pinned
-pub mod Unique
+pub mod AddedBytes
 pub mod Fits
+pub mod Unique

@@ -41,7 +41,7 @@ is-same-byte none (some b) t = absurd t
 is-same-byte (some a) none t = absurd t
 is-same-byte (some a) (some b) t = ap some (eqb→eq a b t)
 
-is-same : (s t : Told ℕ) → T (same s t) → s ≡ t
+pub is-same : (s t : Told ℕ) → T (same s t) → s ≡ t
 unfolding same
 is-same s t h =
     told-is s (eqb→eq (s .number) (t .number) (left (eqb (s .number) (t .number)) (sameByte (s .value) (t .value)) h))
@@ -95,6 +95,9 @@ is-nothing : (a : Awaited) → T (nothingAwaited a) → a ≡ awaited.Nothing
 is-nothing awaited.Nothing t = refl
 is-nothing awaited.Contrast t = absurd t
 is-nothing awaited.Indicator t = absurd t
+is-nothing awaited.Com0 t = absurd t
+is-nothing awaited.Duty t = absurd t
+is-nothing awaited.Inversion t = absurd t
 
 unfoldable pub whole : Option Instruction → Bool
 whole (some i) = true

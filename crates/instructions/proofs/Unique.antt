@@ -1,26 +1,33 @@
--- What reader, writer and `class_of` promise fixes their answers: what is told of an answer tells all answers apart, since it has an
--- inverse. And each number is given exactly when its line of document 01's table holds.
+-- What the readers, the writers and `class_of` promise fixes their answers: what is told of an answer tells all answers apart, since it
+-- has an inverse. And each number is given exactly when its line of document 01's table holds.
 -- Assumes nothing.
 use Prim.Native.Nat.{ℕ, _+_, _≤_, _<_}
 use mathlib.Core.Path.{_≡_, _∙_, refl, ap, sym, subst}
-use mathlib.Core.Logic.{_≢_, _⊎_, inl, inr}
+use mathlib.Core.Logic.{_≢_, _⊎_, inl, inr, ⊎-elim}
 use mathlib.Core.Bool.{Bool, true, false, cond, not, _&&_}
 use mathlib.Core.Option.{Option, none, some}
 use native.Mathlib.Omega.{arith}
 use lib.Dec.{T, eqb, eqb→eq}
 use borrow.Author.Tests.{eqb-true, eq-eqb, not-false}
-use Rattle.paper.specs.Refusal.{unassigned, outsideField}
+use Rattle.paper.specs.Refusal.{outOfRange, unassigned, outsideField}
 use Rattle.paper.specs.Told.{Told, given, refused}
+use Rattle.paper.specs.Sheet.{Sensible}
 use Rattle.paper.specs.declared.sheet.Sheet.{Sheet}
 use Rattle.paper.proofs.Cases.{less}
-use Rattle.paper.proofs.Exactly.{Exactly, then}
-use Rattle.paper.proofs.Every.{at, left, right}
-use Rattle.paper.proofs.Telling.{apart, answerOf, refused-one, not-given, told-is}
+use Rattle.paper.proofs.Exactly.{Exactly, then, both, same-number, here, past, nowhere}
+use Rattle.paper.proofs.Every.{every, at, left, right}
+use Rattle.paper.proofs.Telling.{apart, answerOf, refused-one, not-given}
 use Rattle.instructions.specs.Write.{fieldOf, flagOf, writeOf, OutsideField, toldWriting, IsWritten}
-use Rattle.instructions.specs.Read.{classOf, readBy, readFirst, readOf, toldReading, assigned, IsRead}
+use Rattle.instructions.specs.Read.{classOf, readBy, readFirst, readOf, toldReading, assigned, nothingAwaited, IsRead}
+use Rattle.instructions.specs.Added.{ofOther, addedFirst, readAdded, assignedAdded, writeAdded, OutsideAdded, toldAdded, IsReadAdded, IsWrittenAdded}
 use Rattle.instructions.specs.Class.{IsClass}
 use Rattle.instructions.specs.declared.instruction.Awaited.{Awaited}
 use Rattle.instructions.specs.declared.instruction.Awaited.the-variants as awaited
+use Rattle.instructions.specs.declared.added.CommandSet.the-variants.{Old, New}
+use Rattle.instructions.specs.declared.added.Added.{Added}
+use Rattle.instructions.specs.declared.added.Added.the-variants.{Com0Next, Com0Value, DutyNext, DutyValue, InversionNext, InversionValue, FrameInversion}
+use Rattle.instructions.specs.declared.added.AddedReading.{AddedReading}
+use Rattle.instructions.specs.declared.added.AddedReading.the-variants as added
 use Rattle.instructions.specs.declared.instruction.Instruction.{Instruction}
 use Rattle.instructions.specs.declared.instruction.Instruction.the-variants.{ColumnLow, ColumnHigh, Resistor, Power, StartLine, ContrastNext, ContrastValue, Adc, Bias, Entire, Reverse, IndicatorOff, IndicatorOn, IndicatorValue, Display, Page, Shl, ModifyReadOn, ModifyReadOff, Reset, Nop}
 use Rattle.instructions.specs.declared.read.Reading.{Reading}
@@ -28,7 +35,7 @@ use Rattle.instructions.specs.declared.read.Reading.the-variants.{ReadAs
 use Rattle.instructions.specs.declared.write.Writing.{Writing}
 use Rattle.instructions.specs.declared.write.Writing.the-variants.{WrittenAs, Unwritten}
 use Rattle.instructions.proofs.Fields.{field-given, field-refused}
-use Rattle.instructions.proofs.Pinned.{whole}
+use Rattle.instructions.proofs.Fits.{Proper, read-proper, added-proper}
 
 -- ---- the reader
 
@@ -39,6 +46,14 @@ reading-back (Unread n) = refl
 -- two readings that the promise admits are equal
 pub read-one : {k : Sheet} {a : Awaited} {b : ℕ} {r s : Reading} → IsRead k a b r → IsRead k a b s → r ≡ s
 read-one {r = r} {s = s} f g = apart toldReading (answerOf ReadAs Unread) reading-back r s (f .tells ∙ sym (g .tells))
+
+-- and so with the new set's
+added-back : (r : AddedReading) → answerOf added.ReadAs added.Unread (toldAdded r) ≡ r
+added-back (added.ReadAs i) = refl
+added-back (added.Unread n) = refl
+
+pub read-added-one : {a : Awaited} {b : ℕ} {r s : AddedReading} → IsReadAdded a b r → IsReadAdded a b s → r ≡ s
+read-added-one {r = r} {s = s} f g = apart toldAdded (answerOf added.ReadAs added.Unread) added-back r s (f .tells ∙ sym (g .tells))
 
 -- ---- the writer
 
@@ -54,6 +69,9 @@ written-told = apart toldWriting (answerOf WrittenAs Unwritten) writing-back
 pub written-one : {k : Sheet} {i : Instruction} {w v : Writing} → IsWritten k i w → IsWritten k i v → w ≡ v
 written-one {w = w} {v = v} f g = written-told w v (f .tells ∙ sym (g .tells))
 
+pub written-added-one : {i : Added} {w v : Writing} → IsWrittenAdded i w → IsWrittenAdded i v → w ≡ v
+written-added-one {w = w} {v = v} f g = written-told w v (f .tells ∙ sym (g .tells))
+
 -- ---- the class
 
 -- two classes that the promise admits are equal
@@ -66,52 +84,112 @@ unfolding assigned
 class-0 {b} f =
     (λ e. ap not (eq-eqb (classOf b) 0 (sym (f .tells) ∙ e)), λ e. f .tells ∙ eqb-true (classOf b) 0 (not-false (eqb (classOf b) 0) e))
 
--- ---- number 4: an instruction byte unassigned and nothing awaited, and only then
+-- ---- numbers 2 and 4: a byte of the other set awaited; an instruction byte unassigned and nothing awaited; and only then
 
-unfoldable pub refusedSo : Sheet → ℕ → Bool
-refusedSo k b = cond (whole (readFirst k b .value)) (assigned b) (not (assigned b) && eqb (readFirst k b .number) unassigned)
+-- the number of what is told: 0 where something is given
+abbrev pub toldNumber : {I : Type 0} → ℕ → Option I → ℕ
+toldNumber n (some i) = 0
+toldNumber n none = n
 
-refused-so : (k : Sheet) (b : ℕ) → b < 256 → T (refusedSo k b)
-unfolding refusedSo whole readFirst readBy classOf assigned
-refused-so k b h = at (refusedSo k) 256 tt b h
+-- where nothing is awaited, one of the 256 bytes is refused with 4 exactly if it is unassigned
+unfoldable pub refusedSo : {I : Type 0} → (ℕ → Told I) → (ℕ → Bool) → ℕ → Bool
+refusedSo first known b =
+    eqb (first b .number) (cond (known b) 0 unassigned) && eqb (toldNumber (first b .number) (first b .value)) (cond (known b) 0 unassigned)
 
-is-true : (b : Bool) → T b → b ≡ true
-is-true true t = refl
-is-true false t = absurd t
+-- the number of a byte of a set, by what is awaited: of the other set, or nothing
+abbrev pub numberBy : Bool → Bool → Bool → ℕ
+numberBy other nothing known = cond other outOfRange (cond (nothing && not known) unassigned 0)
 
-is-false : (b : Bool) → T (not b) → b ≡ false
-is-false true t = absurd t
-is-false false t = refl
+-- what is told has this number, whether something is given or not
+abbrev pub Has : {I : Type 0} → Told I → ℕ → Type 0
+Has t n = (t .number ≡ n) × (toldNumber (t .number) (t .value) ≡ n)
 
-module _ (k : Sheet) (b : ℕ) (h : b < 256) where
-  -- nothing awaited: a byte that is not read is unassigned, and refused with 4
-  pub read-none : readOf k awaited.Nothing b .value ≡ none → (assigned b ≡ false) × (readOf k awaited.Nothing b .number ≡ unassigned)
-  unfolding refusedSo whole
-  read-none e =
-      let t : T (not (assigned b) && eqb (readFirst k b .number) unassigned) = rw e at (refused-so k b h) in
-      (is-false (assigned b) (left (not (assigned b)) _ t), eqb→eq (readFirst k b .number) unassigned (right (not (assigned b)) _ t))
+first-by : {I : Type 0} (t : Told I) (known : Bool) → Has t (cond known 0 unassigned) → Has t (numberBy false true known)
+first-by t true h = h
+first-by t false h = h
 
-  -- and one that is read is assigned
-  pub read-some : (i : Instruction) → readOf k awaited.Nothing b .value ≡ some i → assigned b ≡ true
-  unfolding refusedSo whole
-  read-some i e = is-true (assigned b) (rw e at (refused-so k b h))
+first-number : {I : Type 0} (first : ℕ → Told I) (known : ℕ → Bool) → T (every (refusedSo first known) 0 256) → (b : ℕ) → b < 256
+    → Has (first b) (numberBy false true (known b))
+unfolding refusedSo
+first-number first known all b h =
+    let n = cond (known b) 0 unassigned in
+    let t = at (refusedSo first known) 256 all b h in
+    first-by (first b) (known b)
+    (eqb→eq (first b .number) n (left (eqb (first b .number) n) _ t), eqb→eq (toldNumber (first b .number) (first b .value)) n (right (eqb (first b .number) n) _ t))
 
-  pub unread-4 : (a : Awaited) (n : ℕ) → IsRead k a b (Unread n) → (n ≡ unassigned) × (a ≡ awaited.Nothing) × (assigned b ≡ false)
-  unread-4 awaited.Nothing n f =
-      let p = read-none (sym (ap (λ t. t .value) (f .tells))) in
-      (ap (λ t. t .number) (f .tells) ∙ p .1, refl, p .0)
-  unread-4 awaited.Contrast n f = absurd (not-given (f .tells))
-  unread-4 awaited.Indicator n f = absurd (not-given (f .tells))
+module _ (b : ℕ) (h : b < 256) where
+  pub number-read : (k : Sheet) (a : Awaited) → Has (readOf k a b) (numberBy (ofOther Old a) (nothingAwaited a) (assigned b))
+  unfolding refusedSo readFirst readBy classOf assigned
+  number-read k awaited.Nothing = first-number (readFirst k) assigned tt b h
+  number-read k awaited.Contrast = (refl, refl)
+  number-read k awaited.Indicator = (refl, refl)
+  number-read k awaited.Com0 = (refl, refl)
+  number-read k awaited.Duty = (refl, refl)
+  number-read k awaited.Inversion = (refl, refl)
 
-  pub unread-not-0 : (a : Awaited) (n : ℕ) → IsRead k a b (Unread n) → n ≢ 0
-  unread-not-0 a n f z = omega (arith, unread-4 a n f .0)
+  pub number-added : (a : Awaited) → Has (readAdded a b) (numberBy (ofOther New a) (nothingAwaited a) (assignedAdded b))
+  unfolding refusedSo addedFirst assignedAdded
+  number-added awaited.Nothing = first-number addedFirst assignedAdded tt b h
+  number-added awaited.Contrast = (refl, refl)
+  number-added awaited.Indicator = (refl, refl)
+  number-added awaited.Com0 = (refl, refl)
+  number-added awaited.Duty = (refl, refl)
+  number-added awaited.Inversion = (refl, refl)
 
-  by-value : assigned b ≡ false → (x : Option Instruction) → readOf k awaited.Nothing b .value ≡ x → readOf k awaited.Nothing b ≡ refused unassigned
-  by-value e none f = told-is (readFirst k b) (read-none f .1) f
-  by-value e (some i) f = absurd (subst T (sym (read-some i f) ∙ e) tt)
+-- an answer is refused with a number exactly if it has that number
+reading-number : (r : Reading) (n : ℕ) → n ≢ 0 → Exactly (r ≡ Unread n) (toldReading r .number ≡ n)
+reading-number (ReadAs i) n h = (λ e. ap (λ r. toldReading r .number) e, λ e. absurd (h (sym e)))
+reading-number (Unread m) n h = (λ e. ap (λ r. toldReading r .number) e, λ e. ap Unread e)
 
-  pub unassigned-4 : assigned b ≡ false → readOf k awaited.Nothing b ≡ refused unassigned
-  unassigned-4 e = by-value e (readFirst k b .value) refl
+added-number : (r : AddedReading) (n : ℕ) → n ≢ 0 → Exactly (r ≡ added.Unread n) (toldAdded r .number ≡ n)
+added-number (added.ReadAs i) n h = (λ e. ap (λ r. toldAdded r .number) e, λ e. absurd (h (sym e)))
+added-number (added.Unread m) n h = (λ e. ap (λ r. toldAdded r .number) e, λ e. ap added.Unread e)
+
+-- which number it is
+module _ (other nothing known : Bool) where
+  is-2 : Exactly (numberBy other nothing known ≡ outOfRange) (other ≡ true)
+  is-2 = here other outOfRange _ (nowhere (nothing && not known) unassigned 0 outOfRange (λ e. omega arith) (λ e. omega arith))
+
+  is-4 : Exactly (numberBy other nothing known ≡ unassigned) ((other ≡ false) × ((nothing && not known) ≡ true))
+  is-4 =
+      then (past other outOfRange _ unassigned (λ e. omega arith))
+      (both (λ e. e, λ e. e) (here (nothing && not known) unassigned 0 (λ e. omega arith)))
+
+-- the reader's, and the new set's
+module _ (a : Awaited) (b : ℕ) (h : b < 256) where
+  pub unread-2 : {k : Sheet} {r : Reading} → IsRead k a b r → Exactly (r ≡ Unread outOfRange) (ofOther Old a ≡ true)
+  unread-2 {k} {r} f =
+      then (reading-number r outOfRange (λ e. omega arith))
+      (then (same-number (ap (λ t. t .number) (f .tells) ∙ number-read b h k a .0)) (is-2 (ofOther Old a) (nothingAwaited a) (assigned b)))
+
+  pub unread-4 : {k : Sheet} {r : Reading} → IsRead k a b r → Exactly (r ≡ Unread unassigned) ((ofOther Old a ≡ false) × ((nothingAwaited a && not (assigned b)) ≡ true))
+  unread-4 {k} {r} f =
+      then (reading-number r unassigned (λ e. omega arith))
+      (then (same-number (ap (λ t. t .number) (f .tells) ∙ number-read b h k a .0)) (is-4 (ofOther Old a) (nothingAwaited a) (assigned b)))
+
+  pub unread-added-2 : {r : AddedReading} → IsReadAdded a b r → Exactly (r ≡ added.Unread outOfRange) (ofOther New a ≡ true)
+  unread-added-2 {r} f =
+      then (added-number r outOfRange (λ e. omega arith))
+      (then (same-number (ap (λ t. t .number) (f .tells) ∙ number-added b h a .0)) (is-2 (ofOther New a) (nothingAwaited a) (assignedAdded b)))
+
+  pub unread-added-4 : {r : AddedReading} → IsReadAdded a b r
+      → Exactly (r ≡ added.Unread unassigned) ((ofOther New a ≡ false) × ((nothingAwaited a && not (assignedAdded b)) ≡ true))
+  unread-added-4 {r} f =
+      then (added-number r unassigned (λ e. omega arith))
+      (then (same-number (ap (λ t. t .number) (f .tells) ∙ number-added b h a .0)) (is-4 (ofOther New a) (nothingAwaited a) (assignedAdded b)))
+
+-- no number but 2 and 4
+pub unread-only : {k : Sheet} {a : Awaited} {b n : ℕ} → Sensible k → IsRead k a b (Unread n) → (n ≡ unassigned) ⊎ (n ≡ outOfRange)
+unread-only {k} {a} {b} g f = subst (λ t. Proper (writeOf k) (t .number) (t .value)) (sym (f .tells)) (read-proper k g a b)
+
+pub unread-added-only : {a : Awaited} {b n : ℕ} → IsReadAdded a b (added.Unread n) → (n ≡ unassigned) ⊎ (n ≡ outOfRange)
+unread-added-only {a} {b} f = subst (λ t. Proper writeAdded (t .number) (t .value)) (sym (f .tells)) (added-proper a b)
+
+pub unread-not-0 : {k : Sheet} {a : Awaited} {b n : ℕ} → Sensible k → IsRead k a b (Unread n) → n ≢ 0
+unread-not-0 g f z = ⊎-elim (λ e. omega arith) (λ e. omega arith) (unread-only g f)
+
+pub unread-added-not-0 : {a : Awaited} {b n : ℕ} → IsReadAdded a b (added.Unread n) → n ≢ 0
+unread-added-not-0 f z = ⊎-elim (λ e. omega arith) (λ e. omega arith) (unread-added-only f)
 
 -- ---- number 6: a value to write outside its field, and only then
 
@@ -163,6 +241,16 @@ written-so k ModifyReadOff = byte-so 0xee
 written-so k Reset = byte-so 0xe2
 written-so k Nop = byte-so 0xe3
 
+-- and so the new set's
+added-so : (i : Added) → Six (OutsideAdded i) (writeAdded i)
+added-so Com0Next = byte-so 0x44
+added-so (Com0Value v) = field-so 0x00 128 v
+added-so DutyNext = byte-so 0x48
+added-so (DutyValue v) = field-so 0x00 128 v
+added-so InversionNext = byte-so 0x4c
+added-so (InversionValue v) = field-so 0x00 32 v
+added-so FrameInversion = byte-so 0xe4
+
 -- so 6 is told exactly if the value is outside, it is the number exactly then, and no other number is told
 module _ {Outside : Type 0} {t : Told ℕ} where
   is-6 : Six Outside t → Exactly (t ≡ refused outsideField) Outside
@@ -177,16 +265,17 @@ module _ {Outside : Type 0} {t : Told ℕ} where
   only-6 (inl p) e = refused-one (e ∙ p .0)
   only-6 (inr g) e = absurd (not-given (e ∙ g .is))
 
+  -- and so it is with an answer of a writer
+  answer-6 : Six Outside t → {a : Writing} → toldWriting a ≡ t → Exactly (a ≡ Unwritten outsideField) Outside
+  answer-6 s {a} f = then (λ e. sym f ∙ ap toldWriting e, λ e. written-told a (Unwritten outsideField) (f ∙ e)) (is-6 s)
+
 module _ (k : Sheet) (i : Instruction) where
   -- the number that is told is 6 exactly if the value is outside its field
   pub number-written-6 : Exactly (writeOf k i .number ≡ outsideField) (OutsideField k i)
   number-written-6 = number-6 (written-so k i)
 
-  -- and so it is with an answer of the writer
   pub written-6 : {a : Writing} → IsWritten k i a → Exactly (a ≡ Unwritten outsideField) (OutsideField k i)
-  written-6 {a} f =
-      then (λ e. sym (f .tells) ∙ ap toldWriting e, λ e. written-told a (Unwritten outsideField) (f .tells ∙ e))
-      (is-6 (written-so k i))
+  written-6 f = answer-6 (written-so k i) (f .tells)
 
   -- no number but 6
   pub unwritten-6 : (n : ℕ) → IsWritten k i (Unwritten n) → n ≡ outsideField
@@ -194,3 +283,17 @@ module _ (k : Sheet) (i : Instruction) where
 
   pub unwritten-not-0 : (n : ℕ) → IsWritten k i (Unwritten n) → n ≢ 0
   unwritten-not-0 n f z = omega (arith, unwritten-6 n f)
+
+-- the new set's
+module _ (i : Added) where
+  pub number-added-6 : Exactly (writeAdded i .number ≡ outsideField) (OutsideAdded i)
+  number-added-6 = number-6 (added-so i)
+
+  pub written-added-6 : {a : Writing} → IsWrittenAdded i a → Exactly (a ≡ Unwritten outsideField) (OutsideAdded i)
+  written-added-6 f = answer-6 (added-so i) (f .tells)
+
+  pub unwritten-added-6 : (n : ℕ) → IsWrittenAdded i (Unwritten n) → n ≡ outsideField
+  unwritten-added-6 n f = only-6 (added-so i) (f .tells)
+
+  pub unwritten-added-not-0 : (n : ℕ) → IsWrittenAdded i (Unwritten n) → n ≢ 0
+  unwritten-added-not-0 n f z = omega (arith, unwritten-added-6 n f)

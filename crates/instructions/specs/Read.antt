@@ -5,7 +5,7 @@ use mathlib.Core.Path.{_≡_}
 use mathlib.Core.Bool.{Bool, true, false, cond, not, _&&_}
 use mathlib.Core.Option.{Option, none, some}
 use lib.Dec.{ltb, leb, eqb}
-use Rattle.paper.specs.Refusal.{unassigned}
+use Rattle.paper.specs.Refusal.{outOfRange, unassigned}
 use Rattle.paper.specs.Told.{Told, given, refused}
 use Rattle.paper.specs.declared.sheet.Sheet.{Sheet}
 use Rattle.instructions.specs.Write.{writeOf}
@@ -76,11 +76,15 @@ readBy k c b =
 unfoldable pub readFirst : Sheet → ℕ → Told Instruction
 readFirst k b = readBy k (classOf b) b
 
--- a byte where this is awaited: a second byte is taken whatever its value
+-- a byte where this is awaited: a second byte is taken whatever its value; where one of the new set is awaited, a register is outside
+-- its range
 abbrev pub readOf : Sheet → Awaited → ℕ → Told Instruction
 readOf k awaited.Nothing b = readFirst k b
 readOf k awaited.Contrast b = given (ContrastValue (b % 64))
 readOf k awaited.Indicator b = given (IndicatorValue (b % 4))
+readOf k awaited.Com0 b = refused outOfRange
+readOf k awaited.Duty b = refused outOfRange
+readOf k awaited.Inversion b = refused outOfRange
 
 -- the assigned bytes are those of a row
 unfoldable pub assigned : ℕ → Bool
@@ -95,6 +99,9 @@ abbrev pub nothingAwaited : Awaited → Bool
 nothingAwaited awaited.Nothing = true
 nothingAwaited awaited.Contrast = false
 nothingAwaited awaited.Indicator = false
+nothingAwaited awaited.Com0 = false
+nothingAwaited awaited.Duty = false
+nothingAwaited awaited.Inversion = false
 
 -- what was read, written again; a refusal stays
 abbrev pub writtenAgain : Sheet → Option Instruction → ℕ → Told ℕ

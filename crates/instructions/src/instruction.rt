@@ -1,10 +1,13 @@
 // The instructions, one for each row of document 01's table and one for each second byte, and which second byte is awaited.
 
-// Which second byte the chip awaits.
+// Which second byte the chip awaits: none, one of the old command set's, or one of the new one's (`added.rt`).
 pub enum Awaited {
     Nothing,
     Contrast,
     Indicator,
+    Com0,
+    Duty,
+    Inversion,
 }
 
 pub enum Instruction {

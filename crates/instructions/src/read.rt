@@ -5,6 +5,7 @@ ghost use Rattle.instructions.specs.Read.{roomIn, readBy, toldReading, I
 use crate::class::class_of;
 use crate::instruction::Awaited;
 use crate::instruction::Instruction;
+use paper::refusal::OUT_OF_RANGE;
 use paper::refusal::UNASSIGNED;
 use paper::sheet::Sheet;
 use paper::sheet::ks0713;
@@ -51,7 +52,8 @@ fn read_by(chip: Sheet, class: u8, byte: u8) -> Reading
     }
 }
 
-// Reads one byte, for any chip's sheet. A second byte is taken whatever its value.
+// Reads one byte, for any chip's sheet. A second byte is taken whatever its value; where one of the new set is awaited, none of this
+// set is read.
 pub fn read_for(chip: Sheet, awaited: Awaited, byte: u8) -> Reading
     ensures { λ r. ⌜ IsRead chip awaited byte r ⌝ }
 {
@@ -62,17 +64,20 @@ pub fn read_for(chip: Sheet, awaited: Awaited, byte: u8) -> Reading
         }
         Awaited::Contrast => Reading::ReadAs(Instruction::ContrastValue(byte % 64)),
         Awaited::Indicator => Reading::ReadAs(Instruction::IndicatorValue(byte % 4)),
+        Awaited::Com0 => Reading::Unread(OUT_OF_RANGE),
+        Awaited::Duty => Reading::Unread(OUT_OF_RANGE),
+        Awaited::Inversion => Reading::Unread(OUT_OF_RANGE),
     }
 }
 
-// Reads one byte of the KS0713, with what is awaited. Refuses with 4.
+// Reads one byte of the KS0713, with what is awaited. Refuses with 2 where that is a byte of the new set, and with 4.
 pub fn read_instruction(awaited: Awaited, byte: u8) -> Reading
     ensures { λ r. ⌜ IsRead sheet0713 awaited byte r ⌝ }
 {
     read_for(ks0713(), awaited, byte)
 }
 
-// Reads one byte of the KS0717, with what is awaited. Refuses with 4.
+// Reads one byte of the KS0717, with what is awaited. Refuses with 2 where that is a byte of the new set, and with 4.
 pub fn read_ks0717(awaited: Awaited, byte: u8) -> Reading
     ensures { λ r. ⌜ IsRead sheet0717 awaited byte r ⌝ }
 {

@@ -16,7 +16,7 @@ pub enum Writing {
 }
 
 // A value in the field of `count` values that starts at byte `base`.
-fn field(base: u8, count: u8, value: u8) -> Writing
+pub(crate) fn field(base: u8, count: u8, value: u8) -> Writing
     requires { ⌜ base + count ≤ 256 ⌝ }
     ensures { λ r. ⌜ toldWriting r ≡ fieldOf base count value ⌝ }
 {

@@ -12,18 +12,20 @@ use lib.Dec.{ltb, eqb}
 use lib.ListN.{length, length-append}
 use Rattle.paper.specs.Sheet.{sheet0713}
 use Rattle.paper.proofs.Sensible.{sensible0713}
-use Rattle.paper.proofs.Cases.{split}
+use Rattle.paper.proofs.Cases.{split, chosen}
+use Rattle.instructions.specs.Added.{isNew}
+use Rattle.registers.specs.declared.Beside.{Beside}
 use Rattle.registers.specs.declared.Registers.{Registers}
 use Rattle.controller.specs.Cycle.{Outcome}
 use Rattle.controller.specs.State.{State, step}
 use Rattle.streams.specs.Length.{updateLength}
-use Rattle.jobs.specs.Header.{wordAt, cycleAt, picture2}
-use Rattle.jobs.specs.Text.{hex, decimalUpTo, decimal, field, flag, modifyFlag, readLine, markedLine, refusalLine, badLine, endLine, updateLine}
+use Rattle.jobs.specs.Header.{wordAt, cycleAt, picture2, jobOf}
+use Rattle.jobs.specs.Text.{hex, decimalUpTo, decimal, field, flag, modifyFlag, readLine, markedLine, refusalLine, badLine, lineEnd, endLine, updateLine}
 use Rattle.jobs.specs.Play.{byteLine, lineOf, answerAt, ending, textFrom, powerUp, textBy, textOf, longest}
 use Rattle.jobs.specs.Output.{flagFields, endingMost}
 use Rattle.jobs.specs.declared.header.Job.{Job}
 use Rattle.controller.proofs.Numbered.{Numbered, numbered}
-use Rattle.jobs.proofs.Scan.{Way, short, sizes, cycle, good, way, jobOf, sizes-right}
+use Rattle.jobs.proofs.Scan.{Way, short, sizes, cycle, good, way, sizes-right}
 
 -- ---- digits
 
@@ -102,12 +104,19 @@ update-line : (n : ℕ) → length (updateLine n) ≤ 28
 unfolding updateLine
 update-line n = omega (arith, after-field n ended .bound)
 
-end-fields : (r : Registers) → Most (flagFields r) 148
+-- with the three numbers or without
+end-of : (b : Beside) → Most (lineEnd b) 64
+end-of b =
+    chosen (λ (t : List ℕ). Most t 64) (isNew (b .set))
+    (after-field (b .com0) (after-field (b .duty) (after-field (b .inversion) ended)))
+    (record { bound = omega arith })
+
+end-fields : (r : Registers) → Most (flagFields r) 211
 end-fields r =
     after-field (flag (r .shl)) (after-field (flag (r .adc)) (after-field (flag (r .reverse)) (after-field (flag (r .entire))
-    (after-field (flag (r .on)) (after-field (modifyFlag (r .«modify_read»)) (after-field (r .contrast) ended))))))
+    (after-field (flag (r .on)) (after-field (modifyFlag (r .«modify_read»)) (after-field (r .contrast) (end-of (r .beside))))))))
 
-end-line : (r : Registers) → length (endLine r) ≤ 214
+end-line : (r : Registers) → length (endLine r) ≤ 277
 unfolding endLine
 end-line r = omega (arith, after-field (r .page) (after-field (r .column .0) (after-field (r .«start_line») (end-fields r))) .bound)
 

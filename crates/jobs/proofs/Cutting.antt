@@ -12,13 +12,13 @@ use Rattle.paper.specs.Told.{refused}
 use Rattle.paper.proofs.Cases.{less}
 use Rattle.jobs.specs.Header.{headerOf}
 use Rattle.jobs.specs.Play.{textBy, textOf}
-use Rattle.jobs.proofs.Scan.{Way, short, sizes, cycle, good, way, sizes-right}
+use Rattle.jobs.proofs.Scan.{Way, short, sizes, cycle, good, way, counted-two, sizes-right}
 
 too-long-by : (file : List ℕ) → 34384 < length file → Way file → headerOf file ≡ refused wrongHeader
 too-long-by file l (short h e) = absurd (omega arith)
 too-long-by file l (sizes h s e) = e
-too-long-by file l (cycle h s c e) = absurd (let z = sizes-right _ _ _ _ _ s in omega (arith, z .few, z .two, z .whole))
-too-long-by file l (good h s c e) = absurd (let z = sizes-right _ _ _ _ _ s in omega (arith, z .few, z .two, z .whole))
+too-long-by file l (cycle h s c e) = absurd (let z = sizes-right _ _ _ _ _ s in omega (arith, z .few, counted-two _ (z .counted), z .whole))
+too-long-by file l (good h s c e) = absurd (let z = sizes-right _ _ _ _ _ s in omega (arith, z .few, counted-two _ (z .counted), z .whole))
 
 -- 8 + 2 · 16,000 + 1,188 · 2 bytes are the most
 pub too-long : (file : List ℕ) → 34384 < length file → headerOf file ≡ refused wrongHeader

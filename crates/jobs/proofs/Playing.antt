@@ -18,7 +18,7 @@ use Rattle.paper.specs.Sheet.{sheet0713}
 use Rattle.paper.proofs.Cases.{split}
 use Rattle.paper.proofs.Left.{one-fewer, none-left}
 use Rattle.registers.specs.declared.Registers.{Registers}
-use Rattle.controller.specs.State.{State, state, poweredUp, step}
+use Rattle.controller.specs.State.{State, state, poweredUpIn, step}
 use Rattle.controller.specs.Cycle.{answer}
 use Rattle.controller.specs.Turn.{Turn, readFlag, byteRead, freshFlag, IsTurn}
 use Rattle.controller.proofs.Marks.{read-tells, others-unmarked}
@@ -110,7 +110,7 @@ module _ (file : List ℕ) (j : Job) (i : ℕ) (s : State) where
 
 -- ---- the last lines
 
-module _ (file : List ℕ) (j : Job) (s : State) {o o′ : List ℕ} {at a : ℕ} (p : Put o at (endLine (s .registers)) o′ a 214) where
+module _ (file : List ℕ) (j : Job) (s : State) {o o′ : List ℕ} {at a : ℕ} (p : Put o at (endLine (s .registers)) o′ a 277) where
   pub ending-short : j .pictures < 2 → Put o at (ending file j s) o′ a endingMost
   unfolding ending
   ending-short h = rw (lt-ltb _ _ h, append-nil (endLine (s .registers))) (put-most (omega arith) p)
@@ -147,7 +147,7 @@ module _ (file : List ℕ) (j : Job) (h : Holds file j) (two : 2 ≤ j .pictures
 -- ---- the whole text of a job, and of a file
 
 pub good-whole : (file : List ℕ) (j : Job) {m o₀ o o′ u : List ℕ} {at r k n : ℕ} → m ≡ startMemory file j
-    → Remains (textFrom file j (poweredUp sheet0713 m) 0 (j .cycles)) o₀ o at u → Put o at u o′ r k → r ≤ n
+    → Remains (textFrom file j (poweredUpIn sheet0713 (j .set) m) 0 (j .cycles)) o₀ o at u → Put o at u o′ r k → r ≤ n
     → Put o₀ 0 (textFrom file j (powerUp file j) 0 (j .cycles)) o′ r n
 good-whole file j e h q b = rw (← e) (remains-end h q b)
 

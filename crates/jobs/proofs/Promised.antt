@@ -18,13 +18,13 @@ use Rattle.paper.proofs.Cases.{split, less}
 use Rattle.paper.proofs.Either.{or-true}
 use Rattle.paper.proofs.Exactly.{Exactly, then, both, same-number, here, past, nowhere}
 use Rattle.controller.specs.Cycle.{malformed}
-use Rattle.jobs.specs.Header.{wordAt, cycleAt, wrongCycles, headerOf, toldHeader, IsHeader}
+use Rattle.jobs.specs.Header.{wordAt, cycleAt, wrongCycles, jobOf, headerOf, toldHeader, IsHeader}
 use Rattle.jobs.specs.Play.{textOf, longest, toldPlayed, IsPlayed}
 use Rattle.jobs.specs.declared.header.Header.{Header}
 use Rattle.jobs.specs.declared.header.Header.the-variants as header
 use Rattle.jobs.specs.declared.play.Played.{Played}
 use Rattle.jobs.specs.declared.play.Played.the-variants as played
-use Rattle.jobs.proofs.Scan.{Sized, sizes-right, right-sizes, sizesWrong, cyclesWrong, jobOf, Way, short, sizes, cycle, good, way}
+use Rattle.jobs.proofs.Scan.{Sized, sizes-right, right-sizes, sizesWrong, cyclesWrong, Way, short, sizes, cycle, good, way}
 use Rattle.jobs.proofs.Bound.{text-fits}
 
 -- ---- one answer
@@ -53,7 +53,7 @@ played-one {a = a} {b = b} f g = (played-told a b (f .tells ∙ sym (g .tells)),
 
 -- ---- the tests in the words of the table
 
--- N, P, an offset or the total is wrong: not all of them are right
+-- N, the picture count field, an offset or the total is wrong: not all of them are right
 abbrev pub RightSizes : List ℕ → Type 0
 RightSizes file = Sized (wordAt file 0) (wordAt file 2) (wordAt file 4) (wordAt file 6) (length file)
 

@@ -2,11 +2,14 @@
 -- Assumes nothing.
 use Prim.Native.Nat.{ℕ, zero, suc, _+_, _*_, _-_, _≤_, _<_}
 use mathlib.Core.Path.{_≡_, refl, sym, ap, _∙_}
-use mathlib.Core.Bool.{Bool, true, false, _||_}
+use mathlib.Core.Bool.{Bool, true, false, not, _||_, _&&_}
+use mathlib.Core.Logic.{_⊎_, inl, inr, ⊎-elim}
 use mathlib.Core.List.{List}
 use native.Mathlib.Numerals.{add-one}
+use native.Mathlib.Omega.{arith}
 use borrow.Author.Tests.{ltb-false, eqb-true, not-false, lt-ltb, le-ltb, eq-eqb}
 use lib.ListN.{length, getD}
+use lib.Dec.{ltb, eqb}
 use Rattle.paper.specs.Refusal.{shortJob, wrongHeader, wrongCycle}
 use Rattle.paper.specs.Told.{given, refused}
 use Rattle.paper.proofs.Telling.{given-one, not-given}
@@ -14,7 +17,7 @@ use Rattle.paper.proofs.Cases.{split, less}
 use Rattle.paper.proofs.Either.{neither}
 use Rattle.paper.proofs.Left.{one-fewer, none-left}
 use Rattle.controller.specs.Cycle.{malformed}
-use Rattle.jobs.specs.Header.{wordAt, cycleAt, wrongSizes, wrongCycles, headerOf, toldHeader, IsHeader}
+use Rattle.jobs.specs.Header.{wordAt, cycleAt, picturesIn, setIn, wrongCount, wrongSizes, wrongCycles, jobOf, headerOf, toldHeader, IsHeader}
 use Rattle.jobs.specs.Output.{Holds}
 use Rattle.jobs.specs.declared.header.Job.{Job}
 use Rattle.jobs.specs.declared.header.Header.{Header}
@@ -52,13 +55,41 @@ word-is file at = refl
 
 -- ---- the sizes
 
+-- what a picture count field is where it is not wrong
+abbrev pub Counted : ℕ → Type 0
+Counted p = (p ≤ 2) ⊎ ((p ≡ 256) ⊎ (p ≡ 257))
+
+count-by : (a b c : Bool) → (a && b) && c ≡ false → (a ≡ false) ⊎ ((b ≡ false) ⊎ (c ≡ false))
+count-by false b c e = inl refl
+count-by true false c e = inr (inl refl)
+count-by true true c e = inr (inr e)
+
+pub count-right : (p : ℕ) → wrongCount p ≡ false → Counted p
+unfolding wrongCount
+count-right p e =
+    ⊎-elim (λ t. inl (ltb-false 2 p t))
+    (⊎-elim (λ t. inr (inl (eqb-true p 256 (not-false (eqb p 256) t)))) (λ t. inr (inr (eqb-true p 257 (not-false (eqb p 257) t)))))
+    (count-by (ltb 2 p) (not (eqb p 256)) (not (eqb p 257)) e)
+
+pub right-count : (p : ℕ) → Counted p → wrongCount p ≡ false
+unfolding wrongCount
+right-count p (inl h) = rw (le-ltb 2 p h)
+right-count p (inr (inl h)) = rw h refl
+right-count p (inr (inr h)) = rw h refl
+
+-- so many pictures it has
+pub counted-two : (p : ℕ) → Counted p → picturesIn p ≤ 2
+counted-two p (inl h) = omega arith
+counted-two p (inr (inl h)) = omega arith
+counted-two p (inr (inr h)) = omega arith
+
 -- what a job's sizes are where none is wrong
 pub record Sized (n cycles p pictures total : ℕ) : Type 0 where
   pub few : n ≤ 16000
   pub cycles-at : cycles ≡ 8
-  pub two : p ≤ 2
+  pub counted : Counted p
   pub pictures-at : pictures ≡ 8 + 2 * n
-  pub whole : total ≡ 8 + 2 * n + 1188 * p
+  pub whole : total ≡ 8 + 2 * n + 1188 * picturesIn p
 
 pub sizes-right : (n cycles p pictures total : ℕ) → wrongSizes n cycles p pictures total ≡ false → Sized n cycles p pictures total
 unfolding wrongSizes
@@ -70,7 +101,7 @@ sizes-right n cycles p pictures total e =
     record {
       few = ltb-false _ _ (d .0);
       cycles-at = eqb-true _ _ (not-false _ (d .1));
-      two = ltb-false _ _ (c .1);
+      counted = count-right p (c .1);
       pictures-at = eqb-true _ _ (not-false _ (b .1));
       whole = eqb-true _ _ (not-false _ (a .1));
     }
@@ -78,7 +109,7 @@ sizes-right n cycles p pictures total e =
 pub right-sizes : (n cycles p pictures total : ℕ) → Sized n cycles p pictures total → wrongSizes n cycles p pictures total ≡ false
 unfolding wrongSizes
 right-sizes n cycles p pictures total s =
-    rw (le-ltb 16000 n (s .few), eq-eqb cycles 8 (s .cycles-at), le-ltb 2 p (s .two), eq-eqb pictures (8 + 2 * n) (s .pictures-at), eq-eqb total (8 + 2 * n + 1188 * p) (s .whole))
+    rw (le-ltb 16000 n (s .few), eq-eqb cycles 8 (s .cycles-at), right-count p (s .counted), eq-eqb pictures (8 + 2 * n) (s .pictures-at), eq-eqb total (8 + 2 * n + 1188 * picturesIn p) (s .whole))
 
 -- ---- the four ways through a header
 
@@ -103,7 +134,7 @@ module _ (file : List ℕ) {n cycles p pictures : ℕ} (w : Words file n cycles 
     unfolding headerOf
     header-cycle e = rw (le-ltb _ _ h, ← w .first, ← w .second, ← w .third, ← w .fourth, s, e)
 
-    pub header-good : wrongCycles file 0 n ≡ false → given (record { cycles = n; pictures = p }) ≡ headerOf file
+    pub header-good : wrongCycles file 0 n ≡ false → given (record { cycles = n; pictures = picturesIn p; set = setIn p }) ≡ headerOf file
     unfolding headerOf
     header-good e = rw (le-ltb _ _ h, ← w .first, ← w .second, ← w .third, ← w .fourth, s, e)
 
@@ -113,9 +144,6 @@ sizesWrong file = wrongSizes (wordAt file 0) (wordAt file 2) (wordAt file 4) (wo
 
 abbrev pub cyclesWrong : List ℕ → Bool
 cyclesWrong file = wrongCycles file 0 (wordAt file 0)
-
-abbrev pub jobOf : List ℕ → Job
-jobOf file = record { cycles = wordAt file 0; pictures = wordAt file 4 }
 
 -- which way a file goes
 pub data Way (file : List ℕ) : Type 0 where
@@ -144,7 +172,7 @@ holds-by file j (sizes h s e) f = absurd (not-given (sym (f ∙ e)))
 holds-by file j (cycle h s c e) f = absurd (not-given (sym (f ∙ e)))
 holds-by file j (good h s c e) f =
     let z = sizes-right _ _ _ _ _ s in
-    rw (given-one (f ∙ e)) (record { few = z .few; two = z .two; whole = z .whole })
+    rw (given-one (f ∙ e)) (record { few = z .few; two = counted-two (wordAt file 4) (z .counted); whole = z .whole })
 
 pub header-holds : (file : List ℕ) {a : Header} {j : Job} → IsHeader file a → a ≡ Good j → Holds file j
 header-holds file {j = j} q e = holds-by file j (way file) (ap toldHeader (sym e) ∙ q .tells)

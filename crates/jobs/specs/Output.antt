@@ -11,7 +11,7 @@ use Rattle.paper.specs.Sheet.{sheet0713}
 use Rattle.registers.specs.declared.Registers.{Registers}
 use Rattle.controller.specs.State.{State, step}
 use Rattle.jobs.specs.Header.{cycleAt}
-use Rattle.jobs.specs.Text.{field, newline, flag, modifyFlag, readLine, markedLine, refusalLine}
+use Rattle.jobs.specs.Text.{field, flag, modifyFlag, lineEnd, readLine, markedLine, refusalLine}
 use Rattle.jobs.specs.Play.{lineOf, answerAt}
 use Rattle.jobs.specs.declared.header.Job.{Job}
 
@@ -26,9 +26,9 @@ lineMost = 44
 abbrev pub linesMost : ℕ
 linesMost = 16000 * lineMost
 
--- the last lines: `end` and ten numbers, `update` and one
+-- the last lines: `end` and thirteen numbers, `update` and one
 abbrev pub endingMost : ℕ
-endingMost = 242
+endingMost = 305
 
 -- all of it
 abbrev pub textMost : ℕ
@@ -63,7 +63,7 @@ pub record Turned (file : List ℕ) (i : ℕ) (s : State) (o : List ℕ) (at : �
 
 -- the end line from `on` on, and from SHL on
 abbrev pub lastFields : Registers → List ℕ
-lastFields r = field (flag (r .on)) ++ (field (modifyFlag (r .«modify_read»)) ++ (field (r .contrast) ++ newline))
+lastFields r = field (flag (r .on)) ++ (field (modifyFlag (r .«modify_read»)) ++ (field (r .contrast) ++ lineEnd (r .beside)))
 
 abbrev pub flagFields : Registers → List ℕ
 flagFields r = field (flag (r .shl)) ++ (field (flag (r .adc)) ++ (field (flag (r .reverse)) ++ (field (flag (r .entire)) ++ lastFields r)))

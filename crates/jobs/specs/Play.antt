@@ -11,7 +11,7 @@ use Rattle.paper.specs.Refusal.{shortOutput}
 use Rattle.paper.specs.Told.{Told, given, refused}
 use Rattle.paper.specs.Sheet.{sheet0713}
 use Rattle.controller.specs.Cycle.{Outcome, answer}
-use Rattle.controller.specs.State.{State, poweredUp, step}
+use Rattle.controller.specs.State.{State, poweredUpIn, step}
 use Rattle.streams.specs.Length.{updateLength}
 use Rattle.jobs.specs.Header.{cycleAt, picture2, headerOf}
 use Rattle.jobs.specs.Memory.{startMemory}
@@ -44,9 +44,9 @@ unfoldable pub textFrom : List ℕ → Job → State → ℕ → ℕ → List �
 textFrom file j s i zero = ending file j s
 textFrom file j s i (suc n) = lineOf i (answerAt file i s) ++ textFrom file j (step sheet0713 s (cycleAt file i)) (suc i) n
 
--- the chip at power-up
+-- the chip at power-up, in the job's command set
 abbrev pub powerUp : List ℕ → Job → State
-powerUp file j = poweredUp sheet0713 (startMemory file j)
+powerUp file j = poweredUpIn sheet0713 (j .set) (startMemory file j)
 
 -- the text of a good job, and of any file: a refused one gives the one line `bad` and the number
 unfoldable pub textBy : List ℕ → ℕ → Option Job → List ℕ

@@ -4,6 +4,8 @@ use Prim.Native.Nat.{ℕ, zero, suc, _+_, _/_, _%_}
 use mathlib.Core.Bool.{Bool, cond}
 use mathlib.Core.List.{List, [], _∷_, _++_}
 use lib.Dec.{ltb}
+use Rattle.instructions.specs.Added.{isNew}
+use Rattle.registers.specs.declared.Beside.{Beside}
 use Rattle.registers.specs.declared.ModifyRead.{ModifyRead}
 use Rattle.registers.specs.declared.ModifyRead.the-variants.{Off, On}
 use Rattle.registers.specs.declared.Registers.{Registers}
@@ -61,13 +63,20 @@ abbrev pub modifyFlag : ModifyRead → ℕ
 modifyFlag Off = 0
 modifyFlag (On c) = 1
 
+-- in the new command set the end line has initial COM0, duty and inversion too
+abbrev pub threeFields : Beside → List ℕ
+threeFields b = field (b .com0) ++ (field (b .duty) ++ (field (b .inversion) ++ newline))
+
+abbrev pub lineEnd : Beside → List ℕ
+lineEnd b = cond (isNew (b .set)) (threeFields b) newline
+
 -- `end` with page, column, start line, SHL, ADC, reverse, entire, on, modify-read and contrast
 unfoldable pub endLine : Registers → List ℕ
 endLine r =
     101 ∷ 110 ∷ 100
     ∷ (field (r .page) ++ (field (r .column .0) ++ (field (r .«start_line») ++ (field (flag (r .shl))
     ++ (field (flag (r .adc)) ++ (field (flag (r .reverse)) ++ (field (flag (r .entire)) ++ (field (flag (r .on))
-    ++ (field (modifyFlag (r .«modify_read»)) ++ (field (r .contrast) ++ newline))))))))))
+    ++ (field (modifyFlag (r .«modify_read»)) ++ (field (r .contrast) ++ lineEnd (r .beside)))))))))))
 
 -- `update` length
 unfoldable pub updateLine : ℕ → List ℕ

@@ -1,17 +1,19 @@
 // A job file's header and its cycles: what is refused, and with which number.
 use controller::cycle::not_a_cycle;
+use instructions::added::CommandSet;
 use paper::refusal::SHORT_JOB;
 use paper::refusal::WRONG_CYCLE;
 use paper::refusal::WRONG_HEADER;
 ghost use mathlib.Core.Path.{_≡_};
 ghost use Prim.Native.Nat.{_+_, _*_, _<_, _≤_};
 ghost use lib.ListN.{length};
-ghost use Rattle.jobs.specs.Header.{wordAt, wrongSizes, wrongCycles, IsHeader};
+ghost use Rattle.jobs.specs.Header.{wordAt, setIn, wrongCount, wrongSizes, wrongCycles, IsHeader};
 
-// A good job: how many cycles and how many pictures it has.
+// A good job: how many cycles and how many pictures it has, and the command set that it powers up in.
 pub struct Job {
     pub cycles: usize,
     pub pictures: usize,
+    pub set: CommandSet,
 }
 
 // A good job, or the number of a refusal.
@@ -35,16 +37,34 @@ fn word(file: &[u8], at: usize) -> usize
     wide(file[at]) + 256 * wide(file[at + 1])
 }
 
+// The command set of a picture count field.
+fn set_in(p: usize) -> CommandSet
+    ensures { λ r. ⌜ r ≡ setIn p ⌝ }
+{
+    if p < 256 {
+        return CommandSet::Old;
+    }
+    CommandSet::New
+}
+
+// Whether a picture count field is wrong.
+fn wrong_count(p: usize) -> bool
+    ensures { λ r. ⌜ r ≡ wrongCount p ⌝ }
+{
+    (2 < p) & (p != 256) & (p != 257)
+}
+
 // Whether a count, an offset or the total is wrong.
 fn wrong_sizes(n: usize, cycles: usize, p: usize, pictures: usize, total: usize) -> bool
-    requires { ⌜ (n < 65536) × (p < 65536) ⌝ }
+    requires { ⌜ n < 65536 ⌝ }
     ensures { λ r. ⌜ r ≡ wrongSizes n cycles p pictures total ⌝ }
 {
+    let wrong = wrong_count(p);
     (16000 < n)
         | (cycles != 8)
-        | (2 < p)
+        | wrong
         | (pictures != 8 + 2 * n)
-        | (total != 8 + 2 * n + 1188 * p)
+        | (total != 8 + 2 * n + 1188 * (p % 256))
 }
 
 // Whether one of the n cycles is no cycle.
@@ -63,7 +83,7 @@ fn wrong_cycles(file: &[u8], n: usize) -> bool
 }
 
 // Reads a job file. Refuses with 7 where it is shorter than a header, with 8 where a count, an offset or the total is wrong,
-// with 9 where a cycle is none, tested in this order; or answers how many cycles and pictures it has.
+// with 9 where a cycle is none, tested in this order; or answers how many cycles and pictures it has, and its command set.
 pub fn read_header(file: &[u8]) -> Header
     ensures { λ a. ⌜ IsHeader (now (file .entry)) a ⌝ }
 {
@@ -80,6 +100,7 @@ pub fn read_header(file: &[u8]) -> Header
     }
     Header::Good(Job {
         cycles: n,
-        pictures: p,
+        pictures: p % 256,
+        set: set_in(p),
     })
 }

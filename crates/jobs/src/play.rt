@@ -14,12 +14,12 @@ use paper::refusal::SHORT_OUTPUT;
 use planner::count::Count;
 use planner::length::update_length;
 use registers::Registers;
-use registers::start::power_up;
+use registers::start::power_up_in;
 ghost use mathlib.Core.Path.{_≡_};
 ghost use Prim.Native.Nat.{_+_, _*_, _<_, _≤_};
 ghost use lib.ListN.{length};
 ghost use Rattle.paper.specs.Sheet.{sheet0713};
-ghost use Rattle.controller.specs.State.{state, poweredUp};
+ghost use Rattle.controller.specs.State.{state, poweredUpIn};
 ghost use Rattle.streams.specs.Length.{updateLength};
 ghost use Rattle.jobs.specs.Header.{picture2};
 ghost use Rattle.jobs.specs.Play.{ending, textFrom, powerUp, textOf, IsPlayed};
@@ -97,14 +97,15 @@ fn play_cycle(
     }
 }
 
-// All the cycles, from power-up: what is left to put is the ending.
+// All the cycles, from power-up in the job's command set: what is left to put is the ending.
 fn play_cycles(file: &[u8], job: Job, memory: &mut [u8], out: &mut [u8]) -> After
     requires { ⌜ Holds (now file) job ⌝ }
-    ensures { λ a. ⌜ Remains (textFrom (now (file .entry)) job (poweredUp sheet0713 (now (memory .entry))) 0 (job .cycles)) (now (out .entry)) (now (out .exit)) (a .at)
+    ensures { λ a. ⌜ Remains (textFrom (now (file .entry)) job (poweredUpIn sheet0713 (job .set) (now (memory .entry))) 0 (job .cycles)) (now (out .entry)) (now (out .exit)) (a .at)
         (ending (now (file .entry)) job (state (a .registers) (now (memory .exit)))) × (a .at ≤ linesMost) ⌝ }
 {
+    let set = job.set;
     let mut after = After {
-        registers: power_up(),
+        registers: power_up_in(set),
         at: 0,
     };
     let mut i = 0;

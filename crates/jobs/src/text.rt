@@ -1,11 +1,13 @@
 // Pieces of the player's text, put into a lent output from a place on. A byte past the output's end is counted and not
 // stored, so the same calls measure a text (on any output) and write it (on one that is long enough).
+use instructions::added::is_new;
+use registers::Beside;
 use registers::ModifyRead;
 use registers::Registers;
 ghost use mathlib.Core.Path.{_≡_};
 ghost use mathlib.Core.List.{[], _∷_};
 ghost use Prim.Native.Nat.{_+_, _<_, _≤_};
-ghost use Rattle.jobs.specs.Text.{digit, hex, decimalUpTo, field, newline, flag, modifyFlag, readLine, markLetter, markedLine, refusalLine, badLine, endLine, updateLine};
+ghost use Rattle.jobs.specs.Text.{digit, hex, decimalUpTo, field, newline, flag, modifyFlag, readLine, markLetter, markedLine, refusalLine, badLine, threeFields, lineEnd, endLine, updateLine};
 ghost use Rattle.jobs.specs.Output.{Put, textMost, lineMost, flagFields, lastFields};
 
 // One byte.
@@ -157,22 +159,46 @@ fn modify_flag(mode: ModifyRead) -> usize
     }
 }
 
-// The end line's last three numbers.
-fn put_last(out: &mut [u8], at: usize, registers: Registers) -> usize
+// The new command set's three numbers, and the end of the line.
+fn put_three(out: &mut [u8], at: usize, beside: Beside) -> usize
     requires { ⌜ at + 64 ≤ textMost ⌝ }
-    ensures { λ r. ⌜ Put (now (out .entry)) at (lastFields registers) (now (out .exit)) r 64 ⌝ }
+    ensures { λ r. ⌜ Put (now (out .entry)) at (threeFields beside) (now (out .exit)) r 64 ⌝ }
+{
+    let a1 = put_field(out, at, beside.com0 as usize);
+    let a2 = put_field(out, a1, beside.duty as usize);
+    let a3 = put_field(out, a2, beside.inversion as usize);
+    put_byte(out, a3, b'\n')
+}
+
+// How the end line ends: with the three in the new set.
+fn put_line_end(out: &mut [u8], at: usize, beside: Beside) -> usize
+    requires { ⌜ at + 64 ≤ textMost ⌝ }
+    ensures { λ r. ⌜ Put (now (out .entry)) at (lineEnd beside) (now (out .exit)) r 64 ⌝ }
+{
+    let set = beside.set;
+    if is_new(set) {
+        return put_three(out, at, beside);
+    }
+    put_byte(out, at, b'\n')
+}
+
+// The end line from `on` on.
+fn put_last(out: &mut [u8], at: usize, registers: Registers) -> usize
+    requires { ⌜ at + 127 ≤ textMost ⌝ }
+    ensures { λ r. ⌜ Put (now (out .entry)) at (lastFields registers) (now (out .exit)) r 127 ⌝ }
 {
     let mode = registers.modify_read;
+    let beside = registers.beside;
     let a1 = put_flag(out, at, registers.on);
     let a2 = put_field(out, a1, modify_flag(mode));
     let a3 = put_field(out, a2, registers.contrast as usize);
-    put_byte(out, a3, b'\n')
+    put_line_end(out, a3, beside)
 }
 
 // The end line's flags, and the numbers after them.
 fn put_flags(out: &mut [u8], at: usize, registers: Registers) -> usize
-    requires { ⌜ at + 148 ≤ textMost ⌝ }
-    ensures { λ r. ⌜ Put (now (out .entry)) at (flagFields registers) (now (out .exit)) r 148 ⌝ }
+    requires { ⌜ at + 211 ≤ textMost ⌝ }
+    ensures { λ r. ⌜ Put (now (out .entry)) at (flagFields registers) (now (out .exit)) r 211 ⌝ }
 {
     let a1 = put_flag(out, at, registers.shl);
     let a2 = put_flag(out, a1, registers.adc);
@@ -183,8 +209,8 @@ fn put_flags(out: &mut [u8], at: usize, registers: Registers) -> usize
 
 // The line after the cycles.
 pub(crate) fn put_end(out: &mut [u8], at: usize, registers: Registers) -> usize
-    requires { ⌜ at + 214 ≤ textMost ⌝ }
-    ensures { λ r. ⌜ Put (now (out .entry)) at (endLine registers) (now (out .exit)) r 214 ⌝ }
+    requires { ⌜ at + 277 ≤ textMost ⌝ }
+    ensures { λ r. ⌜ Put (now (out .entry)) at (endLine registers) (now (out .exit)) r 277 ⌝ }
 {
     let a1 = put_letters(out, at, b'e', b'n', b'd');
     let a2 = put_field(out, a1, registers.page as usize);

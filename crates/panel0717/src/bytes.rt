@@ -36,7 +36,7 @@ pub extern "C" fn panel0717_write_instruction(number: u8, value: u8, byte: &mut 
 fn read_on(awaited: u8, byte: u8) -> Reading
     ensures { λ a. ⌜ ReadOn sheet0717 awaited byte a ⌝ }
 {
-    if 2 < awaited {
+    if 5 < awaited {
         return Reading::Unread(OUT_OF_RANGE);
     }
     read_ks0717(awaited_of(awaited), byte)

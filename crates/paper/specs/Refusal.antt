@@ -41,3 +41,7 @@ wrongCycle = 9
 -- order 11: a text no list of cycles has
 abbrev pub noText : ℕ
 noText = 11
+
+-- order 13: a byte is awaited at a switch of the command set
+abbrev pub awaitedAtSwitch : ℕ
+awaitedAtSwitch = 13

@@ -20,3 +20,5 @@ pub const WRONG_HEADER: u8 = 8;
 pub const WRONG_CYCLE: u8 = 9;
 // Order 11: a text no list of cycles has.
 pub const NO_TEXT: u8 = 11;
+// Order 13: a byte is awaited at a switch of the command set.
+pub const AWAITED_AT_SWITCH: u8 = 13;

@@ -19,7 +19,7 @@ use Rattle.paper.proofs.Sensible.{sensible0713, sensible0717}
 use Rattle.paper.proofs.Telling.{given-one, not-given}
 use Rattle.registers.specs.Registers.{PoweredUp}
 use Rattle.registers.specs.declared.Registers.{Registers}
-use Rattle.registers.proofs.InRange.{ranged, powered-ranged}
+use Rattle.registers.proofs.InRange.{powered-inside}
 use Rattle.controller.specs.Run.{BusCycle}
 use Rattle.controller.specs.Cycle.{answer}
 use Rattle.controller.specs.State.{State, state, run, numbers, rest, settings}
@@ -85,7 +85,7 @@ module _ (k : Sheet) (g : Sensible k) where
   -- the premises are the chip's own
 
   pub restarts : (r : Registers) (m : List ℕ) → PinHigh k r m → Restarts (chipOf k g) (restartOf k g) (state r m)
-  restarts r m h = record { restartable = record { long = h .long; ranged = h .ranged; high = h .high }; sized = h .long }
+  restarts r m h = record { restartable = record { long = h .long; ranged = h .ranged; high = h .high; old = h .old }; sized = h .long }
 
   pub records : (r : Registers) (m recorded : List ℕ) → Holding k r m recorded → Recorded (chipOf k g) (state r m) recorded
   records r m recorded h = record {
@@ -96,11 +96,11 @@ module _ (k : Sheet) (g : Sensible k) where
 
   -- and back
   pub pin-high : (s : State) → Restarts (chipOf k g) (restartOf k g) s → PinHigh k (s .registers) (s .memory)
-  pin-high s h = record { ranged = h .restartable .ranged; high = h .restartable .high; long = h .restartable .long }
+  pin-high s h = record { ranged = h .restartable .ranged; high = h .restartable .high; long = h .restartable .long; old = h .restartable .old }
 
   pub holding : (s : State) (picture : List ℕ) → Recorded (chipOf k g) s picture → Holding k (s .registers) (s .memory) picture
   holding s picture h = record {
-    pin = record { ranged = h .ready .restartable .ranged; high = h .ready .restartable .high; long = h .sized };
+    pin = record { ranged = h .ready .restartable .ranged; high = h .ready .restartable .high; long = h .sized; old = h .ready .restartable .old };
     quiet = h .ready .quiet;
     same = h .same;
   }
@@ -108,7 +108,7 @@ module _ (k : Sheet) (g : Sensible k) where
   -- power-up meets the premises: of a redraw, and of an update if the memory as lent is the recorded picture
 
   pub power-up-pin-high : (r : Registers) (m : List ℕ) → PoweredUp k r → length m ≡ 9 * k .width → PinHigh k r m
-  power-up-pin-high r m p h = record { ranged = ranged k r (powered-ranged k g r p); high = ap (λ s. s .«pin_low») (p .tells); long = h }
+  power-up-pin-high r m p h = record { ranged = powered-inside k g r p; high = ap (λ s. s .«pin_low») (p .tells); long = h; old = ap (λ s. s .beside .set) (p .tells) }
 
   pub power-up-holds : (r : Registers) (m : List ℕ) → PoweredUp k r → length m ≡ 9 * k .width → Holding k r m m
   power-up-holds r m p h =

@@ -9,6 +9,7 @@ use mathlib.Core.List.{List, [], _∷_}
 use lib.ListN.{length, take, replicate}
 use lib.Dec.{eqb}
 use Rattle.paper.specs.declared.sheet.Sheet.{Sheet}
+use Rattle.instructions.specs.declared.added.CommandSet.the-variants.{Old}
 use Rattle.instructions.specs.declared.instruction.Awaited.the-variants as awaited
 use Rattle.registers.specs.Registers.{outside, withContrast, withIndicator, withIndicatorValue, withAwaited, withFresh}
 use Rattle.registers.specs.declared.Registers.{Registers}
@@ -26,11 +27,12 @@ use Rattle.planner.specs.declared.count.Count.the-variants.{Bytes, Refus
 
 -- ---- premises
 
--- the reset pin high and all else unknown: registers in range, a memory of nine pages
+-- the reset pin high and all else unknown: registers in range, a memory of nine pages. Demand 3 speaks of the old command set
 pub record PinHigh (k : Sheet) (r : Registers) (m : List ℕ) : Type 0 where
   pub ranged : outside k r ≡ false
   pub high : r .«pin_low» ≡ false
   pub long : length m ≡ 9 * k .width
+  pub old : r .beside .set ≡ Old
 
 -- the reset pin high, no second byte awaited, and the memory holding our recorded picture
 pub record Holding (k : Sheet) (r : Registers) (m recorded : List ℕ) : Type 0 where

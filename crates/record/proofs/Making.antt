@@ -8,6 +8,7 @@ use native.Mathlib.Omega.{arith}
 use borrow.Author.Tests.{lt-ltb, le-ltb}
 use lib.ListN.{length, take, drop, length-append}
 use lib.Seq.{take-at}
+use Rattle.instructions.specs.declared.added.CommandSet.{CommandSet}
 use Rattle.bus.specs.Cycles.{cyclesOf}
 use Rattle.planner.specs.declared.count.Count.{Count}
 use Rattle.planner.specs.declared.count.Count.the-variants.{Bytes, Refused}
@@ -24,24 +25,24 @@ use Rattle.record.specs.declared.make.Made.the-variants.{Job, BadLine, T
 
 -- ---- a job of good cycles is never refused
 
-module _ (cycles : List ℕ) (count : ℕ) (pictures out : List ℕ) {a : Count} {left : List ℕ} (f : IsWrittenJob cycles count pictures out a left)
-    (g : GoodCycles cycles) (h : FullRoom count pictures out) where
-  always : a ≡ Bytes (length (jobBytes (cyclesOf cycles) count pictures))
-  always = job-always cycles count pictures out a left f (h .fit) (g .few, (h .two, wrong-no (cyclesOf cycles) .0 (g .right))) (h .room) .0
+module _ (set : CommandSet) (cycles : List ℕ) (count : ℕ) (pictures out : List ℕ) {a : Count} {left : List ℕ} (f : IsWrittenJob set cycles count pictures out a left)
+    (g : GoodCycles cycles) (h : FullRoom set count pictures out) where
+  always : a ≡ Bytes (length (jobBytes set (cyclesOf cycles) count pictures))
+  always = job-always set cycles count pictures out a left f (h .fit) (g .few, (h .most, wrong-no (cyclesOf cycles) .0 (g .right))) (h .room) .0
 
-  pub job-given : {n : ℕ} → a ≡ Bytes n → IsWrittenJob cycles count pictures out (Bytes n) left
-  job-given e = subst (λ (x : Count). IsWrittenJob cycles count pictures out x left) e f
+  pub job-given : {n : ℕ} → a ≡ Bytes n → IsWrittenJob set cycles count pictures out (Bytes n) left
+  job-given e = subst (λ (x : Count). IsWrittenJob set cycles count pictures out x left) e f
 
   pub job-never : {n : ℕ} → a ≡ Refused n → ⊥
   job-never {n} e =
-      let same : Refused n ≡ Bytes (length (jobBytes (cyclesOf cycles) count pictures)) = sym e ∙ always in
+      let same : Refused n ≡ Bytes (length (jobBytes set (cyclesOf cycles) count pictures)) = sym e ∙ always in
       let z : _≡_ {A = ℕ} 0 1 = cc in
       omega arith
 
 -- ---- by what reading answers
 
-module _ (text : List ℕ) (count : ℕ) (pictures cycles left : List ℕ) where
-  pub made-bad : {n : ℕ} (job : List ℕ) → IsReadText text cycles (lines.BadLine n) left → IsMade text count pictures (BadLine n) job
+module _ (set : CommandSet) (text : List ℕ) (count : ℕ) (pictures cycles left : List ℕ) where
+  pub made-bad : {n : ℕ} (job : List ℕ) → IsReadText text cycles (lines.BadLine n) left → IsMade set text count pictures (BadLine n) job
   unfolding madeOf
   made-bad {n} job f =
       let o = first-one text n (lines-11 text cycles (lines.BadLine n) left f n .0 refl) in
@@ -50,7 +51,7 @@ module _ (text : List ℕ) (count : ℕ) (pictures cycles left : List ℕ) where
         leaves = λ k e. absurd (let z : _≡_ {A = ℕ} 0 1 = cc in omega arith);
       }
 
-  made-many : (job : List ℕ) → IsReadText text cycles (lines.Refused 6) left → IsMade text count pictures TooMany job
+  made-many : (job : List ℕ) → IsReadText text cycles (lines.Refused 6) left → IsMade set text count pictures TooMany job
   unfolding madeOf
   made-many job f =
       let m = lines-6 text cycles (lines.Refused 6) left f .0 refl in
@@ -60,7 +61,7 @@ module _ (text : List ℕ) (count : ℕ) (pictures cycles left : List ℕ) where
       }
 
   -- room for 16,000 cycles is never short
-  pub made-refused : {n : ℕ} (job : List ℕ) → 32000 ≤ length cycles → IsReadText text cycles (lines.Refused n) left → IsMade text count pictures TooMany job
+  pub made-refused : {n : ℕ} (job : List ℕ) → 32000 ≤ length cycles → IsReadText text cycles (lines.Refused n) left → IsMade set text count pictures TooMany job
   made-refused {n} job room f = ⊎-elim
       (λ e. made-many job (subst (λ (k : ℕ). IsReadText text cycles (lines.Refused k) left) e f))
       (λ e. (
@@ -84,12 +85,12 @@ module _ {text cycles left : List ℕ} {n : ℕ} (f : IsReadText text cycles (li
         right = rw e (good-right (cyclesIn text) (read-again text (good-exactly text .1 (o .1 .0)) .0));
       })
 
-  pub made-job : (count : ℕ) (pictures : List ℕ) (m : ℕ) → m ≡ 2 * n → {out job : List ℕ} {k : ℕ} → IsWrittenJob (take m left) count pictures out (Bytes k) job
-      → IsMade text count pictures (Job k) job
+  pub made-job : (set : CommandSet) (count : ℕ) (pictures : List ℕ) (m : ℕ) → m ≡ 2 * n → {out job : List ℕ} {k : ℕ} → IsWrittenJob set (take m left) count pictures out (Bytes k) job
+      → IsMade set text count pictures (Job k) job
   unfolding madeOf
-  made-job count pictures m h {out} {job} {k} w =
+  made-job set count pictures m h {out} {job} {k} w =
       let o = lines-0 text cycles n left f in
-      let file = jobBytes (cyclesIn text) count pictures in
+      let file = jobBytes set (cyclesIn text) count pictures in
       let p = rw (h, lines-read text cycles n left f) at (written-all w (sym (written-number w))) in
       let same : Bytes k ≡ Bytes (length file) = p .0 in
       let long : k ≡ length file = cc in

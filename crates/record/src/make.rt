@@ -1,4 +1,5 @@
 // A job file, made from a text and pictures.
+use instructions::added::CommandSet;
 use planner::count::Count;
 use recorder::job::write_job;
 use recorder::text::Lines;
@@ -17,11 +18,11 @@ pub(crate) enum Made {
 }
 
 // The job file of good cycles, which is never refused: answers its length.
-fn put_job(cycles: &[u8], count: usize, pictures: &[u8], job: &mut [u8]) -> usize
-    requires { ⌜ GoodCycles (now cycles) × FullRoom count (now pictures) (now job) ⌝ }
-    ensures { λ n. ⌜ IsWrittenJob (now (cycles .entry)) count (now (pictures .entry)) (now (job .entry)) (Bytes n) (now (job .exit)) ⌝ }
+fn put_job(set: CommandSet, cycles: &[u8], count: usize, pictures: &[u8], job: &mut [u8]) -> usize
+    requires { ⌜ GoodCycles (now cycles) × FullRoom set count (now pictures) (now job) ⌝ }
+    ensures { λ n. ⌜ IsWrittenJob set (now (cycles .entry)) count (now (pictures .entry)) (now (job .entry)) (Bytes n) (now (job .exit)) ⌝ }
 {
-    match write_job(cycles, count, pictures, job) {
+    match write_job(set, cycles, count, pictures, job) {
         Count::Bytes(n) => n,
         Count::Refused(_) => 0,
     }
@@ -29,17 +30,18 @@ fn put_job(cycles: &[u8], count: usize, pictures: &[u8], job: &mut [u8]) -> usiz
 
 // Makes the job file. The rooms are for any text that has a job, so nothing but the text is refused.
 pub(crate) fn make_job(
+    set: CommandSet,
     text: &[u8],
     count: usize,
     pictures: &[u8],
     cycles: &mut [u8],
     job: &mut [u8],
 ) -> Made
-    requires { ⌜ FullRoom count (now pictures) (now job) × (32000 ≤ length (now cycles)) ⌝ }
-    ensures { λ a. ⌜ IsMade (now (text .entry)) count (now (pictures .entry)) a (now (job .exit)) ⌝ }
+    requires { ⌜ FullRoom set count (now pictures) (now job) × (32000 ≤ length (now cycles)) ⌝ }
+    ensures { λ a. ⌜ IsMade set (now (text .entry)) count (now (pictures .entry)) a (now (job .exit)) ⌝ }
 {
     match read_text(text, cycles) {
-        Lines::Cycles(n) => Made::Job(put_job(&cycles[0..2 * n], count, pictures, job)),
+        Lines::Cycles(n) => Made::Job(put_job(set, &cycles[0..2 * n], count, pictures, job)),
         Lines::BadLine(line) => Made::BadLine(line),
         Lines::Refused(_) => Made::TooMany,
     }

@@ -29,23 +29,23 @@ fn read_picture(name: &[u8], room: &mut [u8]) -> bool {
     true
 }
 
-// Reads the picture that argument i + 1 names into its place.
-fn read_argument(i: usize, pictures: &mut [u8]) -> bool
+// Reads the picture that an argument names into place i.
+fn read_argument(argument: usize, i: usize, pictures: &mut [u8]) -> bool
     requires { ⌜ (i ≤ 1) × (2377 ≡ length (now pictures)) ⌝ }
 {
     let mut name = io::buffer();
-    let n = os::arg(i + 1, &mut name);
+    let n = os::arg(argument, &mut name);
     let from = 1188 * i;
     read_picture(&name[..n], &mut pictures[from..from + 1189])
 }
 
-// Reads so many pictures, as far as they can be read, and answers whether all of them were.
-pub(crate) fn read_pictures(count: usize, pictures: &mut [u8]) -> bool
-    requires { ⌜ (count ≤ 2) × (2377 ≡ length (now pictures)) ⌝ }
+// Reads so many pictures, which the arguments from `first` on name, as far as they can be read, and answers whether all of them were.
+pub(crate) fn read_pictures(first: usize, count: usize, pictures: &mut [u8]) -> bool
+    requires { ⌜ (first ≤ 2) × (count ≤ 2) × (2377 ≡ length (now pictures)) ⌝ }
 {
     let mut i = 0;
     while i < count {
-        if !read_argument(i, pictures) {
+        if !read_argument(first + i, i, pictures) {
             return false;
         }
         i += 1;

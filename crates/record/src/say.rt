@@ -5,7 +5,9 @@ fn err(words: &[u8]) {
 }
 
 pub(crate) fn usage() {
-    err(b"usage: record [PICTURE [PICTURE]] < text > job\n");
+    err(
+        b"usage: record [PICTURE [PICTURE]] < text > job, or record --new [PICTURE] < text > job\n",
+    );
 }
 
 pub(crate) fn no_input() {

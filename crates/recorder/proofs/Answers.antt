@@ -12,6 +12,7 @@ use lib.ListN.{length, take, length-append, length-take}
 use lib.Seq.{sets, sets-eq}
 use Rattle.paper.specs.Over.{over}
 use Rattle.paper.proofs.Cases.{split}
+use Rattle.instructions.specs.declared.added.CommandSet.{CommandSet}
 use Rattle.controller.specs.Run.{BusCycle}
 use Rattle.bus.specs.Cycles.{cyclesOf}
 use Rattle.bus.proofs.Playing.{cycles-count}
@@ -21,7 +22,7 @@ use Rattle.jobs.proofs.Putting.{put-then}
 use Rattle.recorder.specs.Cycles.{anyWrong, bytesOf}
 use Rattle.recorder.specs.Written.{Written}
 use Rattle.recorder.specs.Text.{cyclesText, textRefusal, IsWrittenText, cyclesIn, badText, readRefusal, toldLines, toldBy, IsReadText}
-use Rattle.recorder.specs.Job.{wordBytes, headerBytes, jobBytes, wrongPictures, jobRefusal, IsWrittenJob}
+use Rattle.recorder.specs.Job.{wordBytes, mostPictures, countField, headerBytes, jobBytes, wrongPictures, jobRefusal, IsWrittenJob}
 use Rattle.recorder.specs.Scan.{Fronted}
 use Rattle.recorder.specs.declared.text.Lines.{Lines}
 use Rattle.recorder.specs.declared.text.Lines.the-variants as lines
@@ -140,12 +141,12 @@ pub header-length : (n p : ℕ) → length (headerBytes n p) ≡ 8
 unfolding headerBytes wordBytes
 header-length n p = refl
 
-pub job-length : (xs : List BusCycle) (p : ℕ) (pictures : List ℕ) → length (jobBytes xs p pictures) ≡ 8 + 2 * length xs + length pictures
+pub job-length : (set : CommandSet) (xs : List BusCycle) (p : ℕ) (pictures : List ℕ) → length (jobBytes set xs p pictures) ≡ 8 + 2 * length xs + length pictures
 unfolding jobBytes
-job-length xs p pictures =
-    let a = length-append (headerBytes (length xs) p) (bytesOf xs ++ pictures) in
+job-length set xs p pictures =
+    let a = length-append (headerBytes (length xs) (countField set p)) (bytesOf xs ++ pictures) in
     let b = length-append (bytesOf xs) pictures in
-    let c = header-length (length xs) p in
+    let c = header-length (length xs) (countField set p) in
     let d = bytes-length xs in
     omega arith
 
@@ -157,47 +158,47 @@ room cycles p total a b few two right h k =
     let f = length-take (2 * (length cycles / 2) - 0) cycles in
     omega arith
 
-module _ (cycles : List ℕ) (p : ℕ) (pictures out : List ℕ) where
+module _ (set : CommandSet) (cycles : List ℕ) (p : ℕ) (pictures out : List ℕ) where
   abbrev total : ℕ
   total = 8 + 2 * (length cycles / 2) + length pictures
 
-  total-is : length (jobBytes (cyclesOf cycles) p pictures) ≡ total
-  total-is = job-length (cyclesOf cycles) p pictures ∙ rw (cycles-count cycles) refl
+  total-is : length (jobBytes set (cyclesOf cycles) p pictures) ≡ total
+  total-is = job-length set (cyclesOf cycles) p pictures ∙ rw (cycles-count cycles) refl
 
-  pub job-size : wrongPictures (length pictures) p ≡ true → IsWrittenJob cycles p pictures out (count.Refused 1) out
+  pub job-size : wrongPictures (length pictures) p ≡ true → IsWrittenJob set cycles p pictures out (count.Refused 1) out
   unfolding jobRefusal
   job-size w = written-refused 1 (rw w refl) refl
 
   module _ (right : wrongPictures (length pictures) p ≡ false) where
-    pub job-many : 16000 < length cycles / 2 → IsWrittenJob cycles p pictures out (count.Refused 6) out
+    pub job-many : 16000 < length cycles / 2 → IsWrittenJob set cycles p pictures out (count.Refused 6) out
     unfolding jobRefusal
     job-many h = written-refused 6 (rw (right, cycles-count cycles, lt-ltb _ _ h) refl) refl
 
     module _ (few : length cycles / 2 ≤ 16000) where
-      pub job-pictures : 2 < p → IsWrittenJob cycles p pictures out (count.Refused 6) out
+      pub job-pictures : mostPictures set < p → IsWrittenJob set cycles p pictures out (count.Refused 6) out
       unfolding jobRefusal
       job-pictures h = written-refused 6 (rw (right, cycles-count cycles, le-ltb _ _ few, lt-ltb _ _ h) refl) refl
 
-      module _ (two : p ≤ 2) where
-        pub job-wrong : anyWrong (cyclesOf cycles) ≡ true → IsWrittenJob cycles p pictures out (count.Refused 6) out
+      module _ (two : p ≤ mostPictures set) where
+        pub job-wrong : anyWrong (cyclesOf cycles) ≡ true → IsWrittenJob set cycles p pictures out (count.Refused 6) out
         unfolding jobRefusal
         job-wrong w = written-refused 6 (rw (right, cycles-count cycles, le-ltb _ _ few, le-ltb _ _ two, w) refl) refl
 
         module _ (formed : anyWrong (cyclesOf cycles) ≡ false) where
-          pub job-short : length out < total → IsWrittenJob cycles p pictures out (count.Refused 5) out
+          pub job-short : length out < total → IsWrittenJob set cycles p pictures out (count.Refused 5) out
           unfolding jobRefusal
           job-short h =
-              let g : length out < length (jobBytes (cyclesOf cycles) p pictures) = rw total-is h in
+              let g : length out < length (jobBytes set (cyclesOf cycles) p pictures) = rw total-is h in
               written-refused 5 (rw (right, lt-ltb _ _ g, cycles-count cycles, le-ltb _ _ few, le-ltb _ _ two, formed) refl) refl
 
           pub job-given : {o1 o2 left : List ℕ} {a b c k m : ℕ} → total ≤ length out
-              → Put out 0 (headerBytes (length cycles / 2) p) o1 a 8 → Put o1 a (take (2 * (length cycles / 2) - 0) cycles) o2 b k → Put o2 b pictures left c m
-              → IsWrittenJob cycles p pictures out (count.Bytes total) left
+              → Put out 0 (headerBytes (length cycles / 2) (countField set p)) o1 a 8 → Put o1 a (take (2 * (length cycles / 2) - 0) cycles) o2 b k → Put o2 b pictures left c m
+              → IsWrittenJob set cycles p pictures out (count.Bytes total) left
           unfolding jobRefusal jobBytes
           job-given h p1 p2 p3 =
-              let g : length (jobBytes (cyclesOf cycles) p pictures) ≤ length out = rw total-is h in
+              let g : length (jobBytes set (cyclesOf cycles) p pictures) ≤ length out = rw total-is h in
               let e : 2 * (length cycles / 2) - 0 ≡ 2 * (length cycles / 2) = omega arith in
               let part : take (2 * (length cycles / 2) - 0) cycles ≡ bytesOf (cyclesOf cycles) = rw e (sym (cycles-bytes cycles)) in
               let q = put-then (rw (sym (cycles-count cycles)) at p1) (put-then (rw part at p2) p3) in
               written-given (rw (right, le-ltb _ _ g, cycles-count cycles, le-ltb _ _ few, le-ltb _ _ two, formed) refl) (sym total-is)
-              (q .bytes ∙ set-in-front (jobBytes (cyclesOf cycles) p pictures) out g)
+              (q .bytes ∙ set-in-front (jobBytes set (cyclesOf cycles) p pictures) out g)

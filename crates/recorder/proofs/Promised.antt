@@ -14,6 +14,7 @@ use Rattle.paper.proofs.Either.{either, or-true}
 use Rattle.paper.proofs.Exactly.{Exactly, no-exactly, yes-exactly}
 use Rattle.paper.proofs.Telling.{apart}
 use Rattle.paper.proofs.Answering.{number-number, refused-number}
+use Rattle.instructions.specs.declared.added.CommandSet.{CommandSet}
 use Rattle.controller.specs.Cycle.{malformed}
 use Rattle.controller.specs.Run.{BusCycle}
 use Rattle.planner.specs.Count.{toldCount}
@@ -38,9 +39,9 @@ written-one {a = a} {b = b} f g = (count-told a b (f .tells ∙ sym (g .tells)),
 pub text-one : (cycles : List ℕ) {out : List ℕ} {a b : Count} {l m : List ℕ} → IsWrittenText cycles out a l → IsWrittenText cycles out b m → (a ≡ b) × (l ≡ m)
 text-one cycles f g = written-one f g
 
-pub job-one : (cycles : List ℕ) (p : ℕ) (pictures : List ℕ) {out : List ℕ} {a b : Count} {l m : List ℕ}
-    → IsWrittenJob cycles p pictures out a l → IsWrittenJob cycles p pictures out b m → (a ≡ b) × (l ≡ m)
-job-one cycles p pictures f g = written-one f g
+pub job-one : (set : CommandSet) (cycles : List ℕ) (p : ℕ) (pictures : List ℕ) {out : List ℕ} {a b : Count} {l m : List ℕ}
+    → IsWrittenJob set cycles p pictures out a l → IsWrittenJob set cycles p pictures out b m → (a ≡ b) × (l ≡ m)
+job-one set cycles p pictures f g = written-one f g
 
 -- what is told of an answer of read_text leads back to it
 linesBy : ℕ → Option ℕ → Option ℕ → Lines

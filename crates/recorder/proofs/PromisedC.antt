@@ -11,7 +11,8 @@ use lib.Dec.{ltb}
 use lib.ListN.{length}
 use Rattle.paper.specs.Refusal.{shortOutput, noText}
 use Rattle.paper.specs.Answers.{leftBy, same}
-use Rattle.paper.proofs.Answering.{answers-one, test-number, Silent, refusal-leaves}
+use Rattle.paper.proofs.Answering.{answers-one, if-split, if-both, test-number, Silent, refusal-leaves}
+use Rattle.state.specs.Packed.{setOf}
 use Rattle.bus.specs.Cycles.{cyclesOf}
 use Rattle.planner.specs.Count.{toldCount}
 use Rattle.planner.specs.declared.count.Count.{Count}
@@ -27,7 +28,7 @@ use Rattle.face.proofs.Refusing.{count-silent}
 use Rattle.recorder.specs.Written.{Written}
 use Rattle.recorder.specs.Text.{textRefusal, readRefusal, toldLines}
 use Rattle.recorder.specs.Job.{jobRefusal}
-use Rattle.recorder.specs.C.{JobOut, TextOut, LinesOut, HeaderOut, PlayOut}
+use Rattle.recorder.specs.C.{setRefusal, JobOut, TextOut, LinesOut, HeaderOut, PlayOut}
 use Rattle.recorder.specs.declared.text.Lines.{Lines}
 use Rattle.recorder.specs.declared.text.Lines.the-variants as lines
 use Rattle.recorder.proofs.Promised.{text-one, job-one, lines-one, written-number, written-refused-leaves}
@@ -40,20 +41,25 @@ writer-leaves (count.Refused n) f h = written-refused-leaves f .1
 
 -- ---- write_job
 
-module _ (cycles : List ℕ) (p : ℕ) (pictures out : List ℕ) (n : ℕ) where
-  pub job-out-one : {o o′ : List ℕ} {a b r r′ : ℕ} → JobOut cycles p pictures out n o a r → JobOut cycles p pictures out n o′ b r′
+module _ (set : ℕ) (cycles : List ℕ) (p : ℕ) (pictures out : List ℕ) (n : ℕ) where
+  pub job-out-one : {o o′ : List ℕ} {a b r r′ : ℕ} → JobOut set cycles p pictures out n o a r → JobOut set cycles p pictures out n o′ b r′
       → (o ≡ o′) × (a ≡ b) × (r ≡ r′)
   job-out-one f g =
-      let p′ = job-one cycles p pictures (f .promised) (g .promised) in
+      let p′ = if-both (ltb 1 set) (f .promised) (g .promised) (λ u v. (u .0 ∙ sym (v .0), u .1 ∙ sym (v .1))) (λ u v. job-one (setOf set) cycles p pictures u v) in
       let q = answers-one (ap toldCount (p′ .0)) (f .answers) (g .answers) in
       (p′ .1, q .0, q .1)
 
-  module _ {o : List ℕ} {a r : ℕ} (f : JobOut cycles p pictures out n o a r) where
-    pub job-out-number : r ≡ jobRefusal (cyclesOf cycles) p pictures out
-    job-out-number = f .answers .number ∙ written-number (f .promised)
+  module _ (o : List ℕ) {a r : ℕ} (f : JobOut set cycles p pictures out n o a r) where
+    pub job-out-number : r ≡ cond (ltb 1 set) (setRefusal (length pictures) p) (jobRefusal (setOf set) (cyclesOf cycles) p pictures out)
+    job-out-number = f .answers .number ∙ if-split (ltb 1 set) (f .promised)
+        (λ t u. ap (λ x. toldCount x .number) (u .0) ∙ rw t refl)
+        (λ t u. written-number u ∙ rw t refl)
 
     pub job-out-leaves : r ≢ 0 → (o ≡ out) × (a ≡ n)
-    job-out-leaves h = (writer-leaves (f .answer) (f .promised) (λ z. h (f .answers .number ∙ z)), refusal-leaves count-silent f h)
+    job-out-leaves h = (
+      if-split (ltb 1 set) (f .promised) (λ t u. u .1) (λ t u. writer-leaves (f .answer) u (λ z. h (f .answers .number ∙ z))),
+      refusal-leaves count-silent f h,
+    )
 
 -- ---- write_text
 
@@ -117,11 +123,11 @@ played-silent : (a : Played) → Silent (toldPlayed a)
 played-silent (played.Text n) = inl refl
 played-silent (played.Refused n) = inr refl
 
-module _ (file : List ℕ) (parts : ℕ × ℕ) where
-  pub header-out-one : {a b : ℕ × ℕ} {r r′ : ℕ} → HeaderOut file parts a r → HeaderOut file parts b r′ → (a ≡ b) × (r ≡ r′)
+module _ (file : List ℕ) (parts : ℕ × ℕ × ℕ) where
+  pub header-out-one : {a b : ℕ × ℕ × ℕ} {r r′ : ℕ} → HeaderOut file parts a r → HeaderOut file parts b r′ → (a ≡ b) × (r ≡ r′)
   header-out-one f g = answers-one (ap toldHeader (header-one (f .promised) (g .promised))) (f .answers) (g .answers)
 
-  module _ {a : ℕ × ℕ} {r : ℕ} (f : HeaderOut file parts a r) where
+  module _ {a : ℕ × ℕ × ℕ} {r : ℕ} (f : HeaderOut file parts a r) where
     pub header-out-number : r ≡ headerOf file .number
     header-out-number = f .answers .number ∙ ap (λ t. t .number) (f .promised .tells)
 

@@ -2,19 +2,35 @@
 -- Assumes nothing.
 use Prim.Native.Nat.{ℕ}
 use mathlib.Core.Path.{_≡_}
+use mathlib.Core.Bool.{cond}
 use mathlib.Core.List.{List}
-use Rattle.paper.specs.Answers.{leftBy, same, Through}
+use lib.Dec.{ltb}
+use lib.ListN.{length}
+use Rattle.paper.specs.Refusal.{wrongSize, outsideField}
+use Rattle.paper.specs.Answers.{leftBy, same, Through, If}
+use Rattle.state.specs.Packed.{setByte, setOf}
 use Rattle.planner.specs.Count.{toldCount}
+use Rattle.planner.specs.declared.count.Count.{Count}
+use Rattle.planner.specs.declared.count.Count.the-variants.{Refused}
 use Rattle.jobs.specs.Header.{toldHeader, IsHeader}
 use Rattle.jobs.specs.Play.{toldPlayed, IsPlayed}
 use Rattle.jobs.specs.declared.header.Job.{Job}
 use Rattle.recorder.specs.Text.{toldLines, IsWrittenText, IsReadText}
-use Rattle.recorder.specs.Job.{IsWrittenJob}
+use Rattle.recorder.specs.Job.{wrongPictures, IsWrittenJob}
 use Rattle.recorder.specs.declared.text.Lines.{Lines}
 
+-- a set that is neither 0 nor 1 is refused with 6, but with 1 where the pictures are not `count`
+abbrev pub setRefusal : ℕ → ℕ → ℕ
+setRefusal total count = cond (wrongPictures total count) wrongSize outsideField
+
+-- the writer's answer for the old set, 0, or the new one, 1
+abbrev pub JobOn : ℕ → List ℕ → ℕ → List ℕ → List ℕ → Count → List ℕ → Type 0
+JobOn set cycles count pictures out a out′ =
+    If (ltb 1 set) ((a ≡ Refused (setRefusal (length pictures) count)) × (out′ ≡ out)) (IsWrittenJob (setOf set) cycles count pictures out a out′)
+
 -- the file in the output, and its length
-abbrev pub JobOut : List ℕ → ℕ → List ℕ → List ℕ → ℕ → List ℕ → ℕ → ℕ → Type 0
-JobOut cycles count pictures out length out′ length′ r = Through (λ a. IsWrittenJob cycles count pictures out a out′) toldCount same length length′ r
+abbrev pub JobOut : ℕ → List ℕ → ℕ → List ℕ → List ℕ → ℕ → List ℕ → ℕ → ℕ → Type 0
+JobOut set cycles count pictures out n out′ n′ r = Through (λ a. JobOn set cycles count pictures out a out′) toldCount same n n′ r
 
 -- the text in the output, and its length
 abbrev pub TextOut : List ℕ → List ℕ → ℕ → List ℕ → ℕ → ℕ → Type 0
@@ -32,11 +48,11 @@ pub record LinesOut (text out : List ℕ) (count line : ℕ) (out′ : List ℕ)
   pub promised : IsReadText text out answer out′
   pub told : LinesTold answer count line count′ line′ r
 
--- how many cycles and how many pictures a job has
-abbrev pub jobParts : Job → ℕ × ℕ
-jobParts j = (j .cycles, j .pictures)
+-- how many cycles and how many pictures a job has, and its command set
+abbrev pub jobParts : Job → ℕ × ℕ × ℕ
+jobParts j = (j .cycles, j .pictures, setByte (j .set))
 
-abbrev pub HeaderOut : List ℕ → ℕ × ℕ → ℕ × ℕ → ℕ → Type 0
+abbrev pub HeaderOut : List ℕ → ℕ × ℕ × ℕ → ℕ × ℕ × ℕ → ℕ → Type 0
 HeaderOut file parts parts′ r = Through (IsHeader file) toldHeader jobParts parts parts′ r
 
 -- the player's text in the output, and its length

@@ -1,9 +1,11 @@
 // The registers with one of them set anew, a function for each.
 ghost use mathlib.Core.Path.{_≡_};
-ghost use Rattle.registers.specs.Registers.{withPage, withColumn, withStartLine, withContrast, withResistor, withPower, withBias, withAdc, withShl, withReverse, withEntire, withOn, withIndicator, withIndicatorValue, withHolder, withPinLow, withModifyRead, withAwaited, withFresh};
+ghost use Rattle.registers.specs.Registers.{withPage, withColumn, withStartLine, withContrast, withResistor, withPower, withBias, withAdc, withShl, withReverse, withEntire, withOn, withIndicator, withIndicatorValue, withHolder, withPinLow, withModifyRead, withAwaited, withFresh, withBeside, withSet, withCom0, withDuty, withInversion};
+use crate::Beside;
 use crate::Column;
 use crate::ModifyRead;
 use crate::Registers;
+use instructions::added::CommandSet;
 use instructions::instruction::Awaited;
 
 pub fn with_page(registers: Registers, page: u8) -> Registers
@@ -154,4 +156,41 @@ pub fn with_fresh(registers: Registers, fresh: bool) -> Registers
     ensures { λ n. ⌜ n ≡ withFresh registers fresh ⌝ }
 {
     Registers { fresh, ..registers }
+}
+
+pub fn with_beside(registers: Registers, beside: Beside) -> Registers
+    ensures { λ n. ⌜ n ≡ withBeside registers beside ⌝ }
+{
+    Registers {
+        beside,
+        ..registers
+    }
+}
+
+pub fn with_set(registers: Registers, set: CommandSet) -> Registers
+    ensures { λ n. ⌜ n ≡ withSet registers set ⌝ }
+{
+    let now = registers.beside;
+    with_beside(registers, Beside { set, ..now })
+}
+
+pub fn with_com0(registers: Registers, com0: u8) -> Registers
+    ensures { λ n. ⌜ n ≡ withCom0 registers com0 ⌝ }
+{
+    let now = registers.beside;
+    with_beside(registers, Beside { com0, ..now })
+}
+
+pub fn with_duty(registers: Registers, duty: u8) -> Registers
+    ensures { λ n. ⌜ n ≡ withDuty registers duty ⌝ }
+{
+    let now = registers.beside;
+    with_beside(registers, Beside { duty, ..now })
+}
+
+pub fn with_inversion(registers: Registers, inversion: u8) -> Registers
+    ensures { λ n. ⌜ n ≡ withInversion registers inversion ⌝ }
+{
+    let now = registers.beside;
+    with_beside(registers, Beside { inversion, ..now })
 }

@@ -4,7 +4,7 @@
 use Prim.Native.Nat.{ℕ, zero, suc, _+_, _≤_, _<_}
 use mathlib.Core.Path.{_≡_, refl, sym, subst}
 use mathlib.Core.Bool.{Bool, true, false, _&&_, _||_}
-use mathlib.Core.List.{List}
+use mathlib.Core.List.{List, [], _∷_}
 use native.Mathlib.Omega.{arith}
 use lib.ListN.{length, getD}
 use lib.Dec.{ltb, eqb}
@@ -15,10 +15,14 @@ use Rattle.paper.proofs.Cases.{less}
 use Rattle.paper.proofs.Either.{or-left, or-right}
 use Rattle.instructions.specs.declared.instruction.Awaited.{Awaited}
 use Rattle.instructions.specs.declared.instruction.Awaited.the-variants as awaited
+use Rattle.registers.specs.Registers.{regs, column}
+use Rattle.registers.specs.declared.Beside.{Beside}
 use Rattle.registers.specs.declared.ModifyRead.{ModifyRead}
 use Rattle.registers.specs.declared.ModifyRead.the-variants.{Off, On}
 use Rattle.registers.specs.declared.Registers.{Registers}
-use Rattle.state.specs.Packed.{flagByte, modifyByte, savedByte, modifyOf, awaitedByte, awaitedOf, packed, unpacked}
+use Rattle.instructions.specs.declared.added.CommandSet.{CommandSet}
+use Rattle.instructions.specs.declared.added.CommandSet.the-variants.{Old, New}
+use Rattle.state.specs.Packed.{flagByte, modifyByte, savedByte, modifyOf, awaitedByte, awaitedOf, setByte, setOf, besideOf, packed, unpacked}
 use Rattle.state.specs.Unfit.{above, oddFlag, spareUsed, unfit}
 
 -- ---- the registers again
@@ -35,6 +39,13 @@ awaited-again : (a : Awaited) → awaitedOf (awaitedByte a) ≡ a
 awaited-again awaited.Nothing = refl
 awaited-again awaited.Contrast = refl
 awaited-again awaited.Indicator = refl
+awaited-again awaited.Com0 = refl
+awaited-again awaited.Duty = refl
+awaited-again awaited.Inversion = refl
+
+set-again : (s : CommandSet) → setOf (setByte s) ≡ s
+set-again Old = refl
+set-again New = refl
 
 pub registers-again : (r : Registers) → unpacked (packed r) ≡ r
 unfolding unpacked packed
@@ -51,6 +62,7 @@ registers-again r =
       modify-again (r .«modify_read»),
       awaited-again (r .awaited),
       flag-again (r .fresh),
+      set-again (r .beside .set),
     )
 
 -- ---- the bytes again
@@ -60,11 +72,19 @@ flag-kept zero h = refl
 flag-kept (suc zero) h = refl
 flag-kept (suc (suc x)) h = absurd (omega arith)
 
-awaited-kept : (x : ℕ) → x ≤ 2 → awaitedByte (awaitedOf x) ≡ x
+awaited-kept : (x : ℕ) → x ≤ 5 → awaitedByte (awaitedOf x) ≡ x
 awaited-kept zero h = refl
 awaited-kept (suc zero) h = refl
 awaited-kept (suc (suc zero)) h = refl
-awaited-kept (suc (suc (suc x))) h = absurd (omega arith)
+awaited-kept (suc (suc (suc zero))) h = refl
+awaited-kept (suc (suc (suc (suc zero)))) h = refl
+awaited-kept (suc (suc (suc (suc (suc zero))))) h = refl
+awaited-kept (suc (suc (suc (suc (suc (suc x)))))) h = absurd (omega arith)
+
+set-kept : (x : ℕ) → x ≤ 1 → setByte (setOf x) ≡ x
+set-kept zero h = refl
+set-kept (suc zero) h = refl
+set-kept (suc (suc x)) h = absurd (omega arith)
 
 modify-kept : (x s : ℕ) → x ≤ 1 → modifyByte (modifyOf x s) ≡ x
 modify-kept zero s h = refl
@@ -93,32 +113,36 @@ record Fit (b : List ℕ) : Type 0 where
   pin : getD b 15 0 ≤ 1
   modify : getD b 16 0 ≤ 1
   saved : (eqb (getD b 16 0) 0 && ltb 0 (getD b 17 0)) ≡ false
-  second : getD b 18 0 ≤ 2
+  second : getD b 18 0 ≤ 5
   mark : getD b 19 0 ≤ 1
-  spare : (k : ℕ) → k < 12 → getD b (20 + k) 0 ≡ 0
+  set : getD b 20 0 ≤ 1
+  spare : (k : ℕ) → k < 8 → getD b (24 + k) 0 ≡ 0
 
 fit : (b : List ℕ) → unfit b ≡ false → Fit b
 unfolding unfit oddFlag spareUsed
 fit b e =
     let t = eqb (getD b 16 0) 0 && ltb 0 (getD b 17 0) in
-    let u = ltb 2 (getD b 18 0) in
+    let u = ltb 5 (getD b 18 0) in
     let p = ltb 1 (getD b 15 0) in
     let m = ltb 1 (getD b 16 0) in
     let a = ltb 1 (getD b 19 0) in
+    let n = ltb 1 (getD b 20 0) in
     let f = above 1 b 6 7 in
-    let e1 = or-left (f || p || m || a || t || u) (above 0 b 20 12) e in
-    let e2 = or-left (f || p || m || a || t) u e1 in
-    let e3 = or-left (f || p || m || a) t e2 in
-    let e4 = or-left (f || p || m) a e3 in
-    let e5 = or-left (f || p) m e4 in
+    let e1 = or-left (f || p || m || a || n || t || u) (above 0 b 24 8) e in
+    let e2 = or-left (f || p || m || a || n || t) u e1 in
+    let e3 = or-left (f || p || m || a || n) t e2 in
+    let e4 = or-left (f || p || m || a) n e3 in
+    let e5 = or-left (f || p || m) a e4 in
+    let e6 = or-left (f || p) m e5 in
     record {
-      flags = none-above 1 b 6 7 (or-left f p e5);
-      pin = ltb-false 1 (getD b 15 0) (or-right f p e5);
-      modify = ltb-false 1 (getD b 16 0) (or-right (f || p) m e4);
-      saved = or-right (f || p || m || a) t e2;
-      second = ltb-false 2 (getD b 18 0) (or-right (f || p || m || a || t) u e1);
-      mark = ltb-false 1 (getD b 19 0) (or-right (f || p || m) a e3);
-      spare = λ k h. none-left (getD b (20 + k) 0) (none-above 0 b 20 12 (or-right (f || p || m || a || t || u) (above 0 b 20 12) e) k h);
+      flags = none-above 1 b 6 7 (or-left f p e6);
+      pin = ltb-false 1 (getD b 15 0) (or-right f p e6);
+      modify = ltb-false 1 (getD b 16 0) (or-right (f || p) m e5);
+      saved = or-right (f || p || m || a || n) t e2;
+      second = ltb-false 5 (getD b 18 0) (or-right (f || p || m || a || n || t) u e1);
+      mark = ltb-false 1 (getD b 19 0) (or-right (f || p || m) a e4);
+      set = ltb-false 1 (getD b 20 0) (or-right (f || p || m || a) n e3);
+      spare = λ k h. none-left (getD b (24 + k) 0) (none-above 0 b 24 8 (or-right (f || p || m || a || n || t || u) (above 0 b 24 8) e) k h);
     }
 
 -- a list of 32 bytes, spelled out
@@ -142,6 +166,7 @@ bytes-again b h e =
       saved-kept (getD b 16 0) (getD b 17 0) (f .modify) (f .saved),
       awaited-kept (getD b 18 0) (f .second),
       flag-kept (getD b 19 0) (f .mark),
+      set-kept (getD b 20 0) (f .set),
     )
     (rw (
       f .spare 0 (omega arith),
@@ -152,11 +177,27 @@ bytes-again b h e =
       f .spare 5 (omega arith),
       f .spare 6 (omega arith),
       f .spare 7 (omega arith),
-      f .spare 8 (omega arith),
-      f .spare 9 (omega arith),
-      f .spare 10 (omega arith),
-      f .spare 11 (omega arith),
     ) at (sym (spelled b h)))
+
+-- ---- the state from its bytes, those that are made from a register each by what it is
+
+pub packed-from : (r : Registers) {bias adc shl reverse entire on indicator pin modify saved second mark set : ℕ}
+    → bias ≡ flagByte (r .bias) → adc ≡ flagByte (r .adc) → shl ≡ flagByte (r .shl) → reverse ≡ flagByte (r .reverse) → entire ≡ flagByte (r .entire)
+    → on ≡ flagByte (r .on) → indicator ≡ flagByte (r .indicator) → pin ≡ flagByte (r .«pin_low») → modify ≡ modifyByte (r .«modify_read»)
+    → saved ≡ savedByte (r .«modify_read») → second ≡ awaitedByte (r .awaited) → mark ≡ flagByte (r .fresh) → set ≡ setByte (r .beside .set)
+    → (r .page ∷ r .column .0 ∷ r .«start_line» ∷ r .contrast ∷ r .resistor ∷ r .power ∷ bias ∷ adc ∷ shl ∷ reverse ∷ entire ∷ on ∷ indicator
+    ∷ r .«indicator_value» ∷ r .holder ∷ pin ∷ modify ∷ saved ∷ second ∷ mark ∷ set ∷ r .beside .com0 ∷ r .beside .duty ∷ r .beside .inversion
+    ∷ 0 ∷ 0 ∷ 0 ∷ 0 ∷ 0 ∷ 0 ∷ 0 ∷ 0 ∷ []) ≡ packed r
+unfolding packed
+packed-from r e6 e7 e8 e9 e10 e11 e12 e15 e16 e17 e18 e19 e20 = rw (e6, e7, e8, e9, e10, e11, e12, e15, e16, e17, e18, e19, e20)
+
+-- and the registers, from what is made of more than one byte or of one that is no number
+pub unpacked-from : (b : List ℕ) {m : ModifyRead} {a : Awaited} {s : Beside} → m ≡ modifyOf (getD b 16 0) (getD b 17 0) → a ≡ awaitedOf (getD b 18 0) → s ≡ besideOf b
+    → regs (getD b 0 0) (column (getD b 1 0)) (getD b 2 0) (getD b 3 0) (getD b 4 0) (getD b 5 0)
+    (eqb (getD b 6 0) 1) (eqb (getD b 7 0) 1) (eqb (getD b 8 0) 1) (eqb (getD b 9 0) 1) (eqb (getD b 10 0) 1) (eqb (getD b 11 0) 1)
+    (eqb (getD b 12 0) 1) (getD b 13 0) (getD b 14 0) (eqb (getD b 15 0) 1) m a (eqb (getD b 19 0) 1) s ≡ unpacked b
+unfolding unpacked
+unpacked-from b e f g = rw (e, f, g)
 
 -- ---- what is packed stands for registers
 
@@ -172,10 +213,17 @@ saved-fits : (m : ModifyRead) → (eqb (modifyByte m) 0 && ltb 0 (savedByte m)) 
 saved-fits Off = refl
 saved-fits (On c) = refl
 
-awaited-fits : (a : Awaited) → ltb 2 (awaitedByte a) ≡ false
+awaited-fits : (a : Awaited) → ltb 5 (awaitedByte a) ≡ false
 awaited-fits awaited.Nothing = refl
 awaited-fits awaited.Contrast = refl
 awaited-fits awaited.Indicator = refl
+awaited-fits awaited.Com0 = refl
+awaited-fits awaited.Duty = refl
+awaited-fits awaited.Inversion = refl
+
+set-fits : (s : CommandSet) → ltb 1 (setByte s) ≡ false
+set-fits Old = refl
+set-fits New = refl
 
 pub packed-fit : (r : Registers) → unfit (packed r) ≡ false
 unfolding packed unfit oddFlag spareUsed
@@ -193,4 +241,5 @@ packed-fit r =
       saved-fits (r .«modify_read»),
       awaited-fits (r .awaited),
       flag-fits (r .fresh),
+      set-fits (r .beside .set),
     )

@@ -1,7 +1,9 @@
 // The state: the registers in 32 bytes, each at its offset, the spare ones 0.
 ghost use mathlib.Core.Path.{_≡_};
-ghost use Rattle.state.specs.Packed.{flagByte, modifyByte, savedByte, awaitedByte, modifyOf, awaitedOf, packed, unpacked};
+ghost use Rattle.state.specs.Packed.{flagByte, modifyByte, savedByte, awaitedByte, setByte, modifyOf, awaitedOf, setOf, besideOf, packed, unpacked};
+use instructions::added::CommandSet;
 use instructions::instruction::Awaited;
+use registers::Beside;
 use registers::Column;
 use registers::ModifyRead;
 use registers::Registers;
@@ -49,6 +51,14 @@ pub(crate) const AWAITED: usize = 18;
 
 pub(crate) const FRESH: usize = 19;
 
+pub(crate) const SET: usize = 20;
+
+const COM0: usize = 21;
+
+const DUTY: usize = 22;
+
+const INVERSION: usize = 23;
+
 // A register of 0 or 1 as a byte.
 pub fn flag_byte(on: bool) -> u8
     ensures { λ b. ⌜ b ≡ flagByte on ⌝ }
@@ -76,7 +86,7 @@ fn saved_byte(mode: ModifyRead) -> u8
     }
 }
 
-// Which second byte is awaited: 0 nothing, 1 contrast, 2 indicator.
+// Which second byte is awaited: 0 nothing, 1 contrast, 2 indicator, 3 initial COM0, 4 duty, 5 inversion.
 fn awaited_byte(awaited: Awaited) -> u8
     ensures { λ b. ⌜ b ≡ awaitedByte awaited ⌝ }
 {
@@ -84,6 +94,19 @@ fn awaited_byte(awaited: Awaited) -> u8
         Awaited::Nothing => 0,
         Awaited::Contrast => 1,
         Awaited::Indicator => 2,
+        Awaited::Com0 => 3,
+        Awaited::Duty => 4,
+        Awaited::Inversion => 5,
+    }
+}
+
+// Which command set is in force: 0 old, 1 new.
+pub fn set_byte(set: CommandSet) -> u8
+    ensures { λ b. ⌜ b ≡ setByte set ⌝ }
+{
+    match set {
+        CommandSet::Old => 0,
+        CommandSet::New => 1,
     }
 }
 
@@ -107,7 +130,26 @@ pub fn awaited_of(byte: u8) -> Awaited
     if byte == 2 {
         return Awaited::Indicator;
     }
+    if byte == 3 {
+        return Awaited::Com0;
+    }
+    if byte == 4 {
+        return Awaited::Duty;
+    }
+    if byte == 5 {
+        return Awaited::Inversion;
+    }
     Awaited::Nothing
+}
+
+// The command set, from its byte.
+pub fn set_of(byte: u8) -> CommandSet
+    ensures { λ s. ⌜ s ≡ setOf byte ⌝ }
+{
+    if byte == 1 {
+        return CommandSet::New;
+    }
+    CommandSet::Old
 }
 
 // The bytes that stand for the registers.
@@ -116,6 +158,8 @@ pub fn pack(registers: Registers) -> State
 {
     let mode = registers.modify_read;
     let awaited = registers.awaited;
+    let beside = registers.beside;
+    let set = beside.set;
     let mut bytes = [0u8; 32];
     bytes[PAGE] = registers.page;
     bytes[COLUMN] = registers.column.0;
@@ -137,7 +181,23 @@ pub fn pack(registers: Registers) -> State
     bytes[SAVED_COLUMN] = saved_byte(mode);
     bytes[AWAITED] = awaited_byte(awaited);
     bytes[FRESH] = flag_byte(registers.fresh);
+    bytes[SET] = set_byte(set);
+    bytes[COM0] = beside.com0;
+    bytes[DUTY] = beside.duty;
+    bytes[INVERSION] = beside.inversion;
     bytes
+}
+
+// What stands beside the registers of the sheet.
+fn beside_of(state: &State) -> Beside
+    ensures { λ b. ⌜ b ≡ besideOf (now (state .entry)) ⌝ }
+{
+    Beside {
+        set: set_of(state[SET]),
+        com0: state[COM0],
+        duty: state[DUTY],
+        inversion: state[INVERSION],
+    }
 }
 
 // The registers that the bytes stand for.
@@ -146,6 +206,7 @@ pub fn unpack(state: &State) -> Registers
 {
     let mode = modify_of(state[MODIFY_READ], state[SAVED_COLUMN]);
     let awaited = awaited_of(state[AWAITED]);
+    let beside = beside_of(state);
     Registers {
         page: state[PAGE],
         column: Column(state[COLUMN]),
@@ -166,5 +227,6 @@ pub fn unpack(state: &State) -> Registers
         modify_read: mode,
         awaited,
         fresh: state[FRESH] == 1,
+        beside,
     }
 }

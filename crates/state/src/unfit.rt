@@ -12,6 +12,7 @@ use crate::packed::ON;
 use crate::packed::PIN_LOW;
 use crate::packed::REVERSE;
 use crate::packed::SAVED_COLUMN;
+use crate::packed::SET;
 use crate::packed::SHL;
 use crate::packed::State;
 use paper::refusal::OUT_OF_RANGE;
@@ -31,17 +32,14 @@ fn odd_flag(state: &State) -> bool
         | (1 < state[PIN_LOW])
         | (1 < state[MODIFY_READ])
         | (1 < state[FRESH])
+        | (1 < state[SET])
 }
 
 // Whether a spare byte is not 0.
 fn spare_used(state: &State) -> bool
     ensures { λ t. ⌜ t ≡ spareUsed (now (state .entry)) ⌝ }
 {
-    (0 < state[20])
-        | (0 < state[21])
-        | (0 < state[22])
-        | (0 < state[23])
-        | (0 < state[24])
+    (0 < state[24])
         | (0 < state[25])
         | (0 < state[26])
         | (0 < state[27])
@@ -57,7 +55,7 @@ pub fn is_unfit(state: &State) -> bool
 {
     let odd = odd_flag(state);
     let used = spare_used(state);
-    odd | ((state[MODIFY_READ] == 0) & (0 < state[SAVED_COLUMN])) | (2 < state[AWAITED]) | used
+    odd | ((state[MODIFY_READ] == 0) & (0 < state[SAVED_COLUMN])) | (5 < state[AWAITED]) | used
 }
 
 // The number that an unfit state is refused with: 2, but 1 where a buffer's size is wrong.

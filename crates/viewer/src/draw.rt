@@ -3,11 +3,12 @@ use glass::bit::bit_of;
 use glass::frame::frame;
 use registers::Registers;
 ghost use mathlib.Core.Path.{_≡_};
+ghost use mathlib.Core.Bool.{false};
 ghost use Prim.Native.Nat.{_+_, _≤_, _<_};
 ghost use lib.ListN.{length};
 ghost use Rattle.paper.specs.Sheet.{sheet0713};
 ghost use Rattle.paper.specs.Listed.{listed};
-ghost use Rattle.registers.specs.Registers.{Ranged};
+ghost use Rattle.registers.specs.Registers.{outside};
 ghost use Rattle.glass.specs.Frame.{frameOf};
 ghost use Rattle.viewer.specs.Drawn.{glyph};
 
@@ -20,7 +21,7 @@ fn room() -> [u8; 1188]
 
 // The lit frame.
 fn lit_frame(registers: Registers, memory: &[u8]) -> [u8; 1188]
-    requires { ⌜ Ranged sheet0713 registers × (length (now memory) ≡ 1188) ⌝ }
+    requires { ⌜ (outside sheet0713 registers ≡ false) × (length (now memory) ≡ 1188) ⌝ }
     ensures { λ r. ⌜ (1188 ≡ length r) × (r ≡ frameOf sheet0713 registers (now (memory .entry))) ⌝ }
 {
     let mut out = room();
@@ -104,7 +105,7 @@ fn all_rows(frame: &[u8], pbm: bool) -> bool
 
 // Draws the glass, and answers whether it could be written.
 pub(crate) fn glass(registers: Registers, memory: &[u8]) -> bool
-    requires { ⌜ Ranged sheet0713 registers × (length (now memory) ≡ 1188) ⌝ }
+    requires { ⌜ (outside sheet0713 registers ≡ false) × (length (now memory) ≡ 1188) ⌝ }
 {
     let frame = lit_frame(registers, memory);
     all_rows(&frame, false)
@@ -112,7 +113,7 @@ pub(crate) fn glass(registers: Registers, memory: &[u8]) -> bool
 
 // Writes the glass as a plain PBM picture, and answers whether it could be written.
 pub(crate) fn pbm(registers: Registers, memory: &[u8]) -> bool
-    requires { ⌜ Ranged sheet0713 registers × (length (now memory) ≡ 1188) ⌝ }
+    requires { ⌜ (outside sheet0713 registers ≡ false) × (length (now memory) ≡ 1188) ⌝ }
 {
     let frame = lit_frame(registers, memory);
     io::write_all(libc::STDOUT_FILENO, b"P1\n132 65\n") & all_rows(&frame, true)

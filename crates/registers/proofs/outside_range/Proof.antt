@@ -15,6 +15,9 @@ outside-range-spec =
     (λ c. search needs)
     (λ c. omega arith)
     (λ c κs. search needs)
+    (λ c κs. search needs)
     (λ c. search needs)
     (λ c. search needs)
-    (λ c. rw (c .before .before .before .before .before .before .before .saved-column .ensures) refl))
+    (λ c.
+    let at-beside = c .before .before .before .before .before .before .before in
+    rw (at-beside .before .before .saved-column .ensures, at-beside .outside-beside .ensures) refl))

@@ -13,7 +13,7 @@ carry-out-spec =
     tie.close
     (tie.spec
     (λ c κs. search needs)
-    (λ c. (search (tests, c .instruct .ensures), rw (c .before .if1 .taken)))
+    (λ c. (search (tests, c .instruct-in .ensures), rw (c .before .if1 .taken)))
     (λ c κs. search needs)
     (λ c κs. omega (arith, c .before .before .before .before .before .before .before .pre .0 .wide, c .before .before .before .before .before .before .before .pre .0 .byte))
     (λ c κs. search needs)
@@ -31,6 +31,6 @@ carry-out-spec =
     let read = c .before in
     (rw (← read .before .load .ensures, ← read .after-read .ensures) (search (tests, c .with-fresh2 .ensures)), search tests))
     (λ c κs. search needs)
-    (λ c. search (tests, c .started .ensures))
+    (λ c. search (tests, c .after-low .ensures))
     (λ c κs. search needs)
     (λ c. search (tests, c .with-pin-low .ensures)))

@@ -9,4 +9,4 @@ reset-spec =
     tie.close
     (tie.spec
     (λ c κs. search needs)
-    (λ c. rw (c .started .ensures)))
+    (λ c. rw (c .before .started .ensures)))

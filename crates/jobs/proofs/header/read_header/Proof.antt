@@ -37,13 +37,15 @@ read-header-spec =
           (sym (s .wrong-sizes .ensures) ∙ c .before .before .if2 .left)
           (sym (c .before .wrong-cycles .ensures) ∙ c .if3 .taken);
     })
+    (λ c κs. search needs)
     (λ c.
-    let s = c .before .before .before in
+    let e = c .before in
+    let s = e .before .before .before in
     let w = s .before in
     record {
-      tells = header-good _
+      tells = rw (c .set-in .ensures) (header-good _
           (record { first = w .before .before .before .word .ensures .0; second = w .before .word3 .ensures .0; third = w .before .before .word2 .ensures .0; fourth = w .word4 .ensures .0 })
           (w .before .before .before .before .if1 .left)
-          (sym (s .wrong-sizes .ensures) ∙ c .before .before .if2 .left)
-          (sym (c .before .wrong-cycles .ensures) ∙ c .if3 .left);
+          (sym (s .wrong-sizes .ensures) ∙ e .before .before .if2 .left)
+          (sym (e .before .wrong-cycles .ensures) ∙ e .if3 .left));
     }))

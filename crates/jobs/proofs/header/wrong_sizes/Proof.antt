@@ -10,10 +10,11 @@ unfolding wrongSizes
 wrong-sizes-spec =
     tie.close
     (tie.spec
+    (λ c κs. search needs)
     (λ c. search needs)
     (λ c. search needs)
     (λ c. search needs)
     (λ c. search needs)
     (λ c. search needs)
     (λ c. search needs)
-    (λ c. search needs))
+    (λ c. rw (c .wrong-count .ensures)))

@@ -6,7 +6,7 @@ use native.Mathlib.Omega.{arith}
 use borrow.Author.Needs.{needs}
 use lib.ListN.{length}
 use Rattle.paper.specs.Sheet.{sheet0713}
-use Rattle.controller.specs.State.{state, poweredUp}
+use Rattle.controller.specs.State.{state, poweredUpIn}
 use Rattle.jobs.specs.Play.{textFrom}
 use Rattle.jobs.specs.Output.{Remains, lineMost}
 use Rattle.jobs.proofs.Playing.{remains-start, remains-turn, remains-ending}
@@ -16,7 +16,7 @@ use Rattle.jobs.proofs.play.play_cycles.Tie as tie
 abbrev Inv-loop : tie.InvT-loop
 Inv-loop file job memory₀ out₀ after₀ i₀ memory out after i =
     (i ≤ job .cycles) × (after .at ≤ lineMost * i)
-    × Remains (textFrom file job (poweredUp sheet0713 memory₀) 0 (job .cycles)) out₀ out (after .at) (textFrom file job (state (after .registers) memory) i (job .cycles - i))
+    × Remains (textFrom file job (poweredUpIn sheet0713 (job .set) memory₀) 0 (job .cycles)) out₀ out (after .at) (textFrom file job (state (after .registers) memory) i (job .cycles - i))
     × (length memory ≡ length memory₀) × (length out ≡ length out₀)
 
 abbrev μ-loop : tie.MeasureT-loop
@@ -26,7 +26,7 @@ loop-holds : tie.Need-loop-holds Inv-loop μ-loop
 loop-holds c =
     let n = c .before .before .before .before .args .job .cycles in
     let e : n - 0 ≡ n = omega arith in
-    (search needs, search needs, rw (e, c .power-up .ensures .tells) (remains-start _ _), refl, refl)
+    (search needs, search needs, rw (e, c .power-up-in .ensures .tells) (remains-start _ _), refl, refl)
 
 loop-again : tie.Need-loop-again Inv-loop μ-loop
 loop-again c =

@@ -1,4 +1,4 @@
--- `jobs::text::put_last` meets its contract: `on`, modify-read, contrast, the newline.
+-- `jobs::text::put_last` meets its contract: `on`, modify-read, contrast, and how the line ends.
 -- Assumes nothing.
 use borrow.Author.Needs.{needs}
 use Rattle.jobs.proofs.Putting.{put-then}
@@ -22,4 +22,4 @@ put-last-spec =
     let p2 = p3 .before .before .before .before .before in
     let p1 = p2 .before .before .before .before .before in
     rw (← p2 .before .modify-flag .ensures)
-    (put-then (p1 .put-flag .ensures) (put-then (p2 .put-field .ensures) (put-then (p3 .put-field2 .ensures) (p4 .put-byte .ensures))))))
+    (put-then (p1 .put-flag .ensures) (put-then (p2 .put-field .ensures) (put-then (p3 .put-field2 .ensures) (p4 .put-line-end .ensures))))))

@@ -1,4 +1,4 @@
--- `panel::bytes::read_on` meets its contract: 2 where the awaited byte is above 2, else the reader's promise.
+-- `panel::bytes::read_on` meets its contract: 2 where the awaited byte is above 5, else the reader's promise.
 -- Assumes nothing.
 use mathlib.Core.Path.{refl}
 use borrow.Author.Needs.{needs}

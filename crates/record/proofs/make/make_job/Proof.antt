@@ -28,7 +28,7 @@ returns c =
     let put = c .before .before in
     let at-n = put .before .before .before .before .before in
     let read = at-n .before .before .before .before in
-    made-job (rw (at-n .n .given .1) at (read .read-text .ensures)) _ _ (2 * at-n .n .given .0 .0 - 0) (omega arith) (put .put-job .ensures)
+    made-job (rw (at-n .n .given .1) at (read .read-text .ensures)) _ _ _ (2 * at-n .n .given .0 .0 - 0) (omega arith) (put .put-job .ensures)
 
 pub make-job-spec : {M : Type 1} → statement M
 make-job-spec =
@@ -47,8 +47,8 @@ make-job-spec =
     (λ c. search needs)
     returns
     (λ c. search needs)
-    (λ c. made-bad _ _ _ _ _ _ (rw (c .before .line .given .1) at (c .before .before .before .before .before .read-text .ensures)))
+    (λ c. made-bad _ _ _ _ _ _ _ (rw (c .before .line .given .1) at (c .before .before .before .before .before .read-text .ensures)))
     (λ c. search needs)
     (λ c.
     let read = c .before .before .before .before in
-    made-refused _ _ _ _ _ _ (read .before .before .before .before .before .before .pre .1) (rw (c .enum-told .given .1) at (read .read-text .ensures))))
+    made-refused _ _ _ _ _ _ _ (read .before .before .before .before .before .before .pre .1) (rw (c .enum-told .given .1) at (read .read-text .ensures))))

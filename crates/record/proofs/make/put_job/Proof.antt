@@ -9,13 +9,13 @@ returns : tie.Need-returns
 returns c =
     let w = c .before .before .before .before .before in
     let p = w .before .before .before .before .before .pre in
-    job-given _ _ _ _ (w .write-job .ensures) (p .0) (p .1) (c .before .n .given .1)
+    job-given _ _ _ _ _ (w .write-job .ensures) (p .0) (p .1) (c .before .n .given .1)
 
 never : tie.Need-returns-2
 never c =
     let w = c .before .before .before .before in
     let p = w .before .before .before .before .before .pre in
-    absurd (job-never _ _ _ _ (w .write-job .ensures) (p .0) (p .1) (c .enum-told .given .1))
+    absurd (job-never _ _ _ _ _ (w .write-job .ensures) (p .0) (p .1) (c .enum-told .given .1))
 
 pub put-job-spec : {M : Type 1} → statement M
 put-job-spec =

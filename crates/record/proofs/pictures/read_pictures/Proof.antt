@@ -9,10 +9,10 @@ use Rattle.record.proofs.pictures.read_pictures.Statement.{statement}
 use Rattle.record.proofs.pictures.read_pictures.Tie as tie
 
 abbrev Inv-loop : tie.InvT-loop
-Inv-loop count pictures₀ i₀ pictures i = (i ≤ count) × (length pictures ≡ length pictures₀)
+Inv-loop first count pictures₀ i₀ pictures i = (i ≤ count) × (length pictures ≡ length pictures₀)
 
 abbrev μ-loop : tie.MeasureT-loop
-μ-loop count pictures₀ i₀ pictures i = count - i
+μ-loop first count pictures₀ i₀ pictures i = count - i
 
 pub read-pictures-spec : {M : Type 1} → statement M
 read-pictures-spec =
@@ -21,6 +21,7 @@ read-pictures-spec =
     Inv-loop
     μ-loop
     (λ c. (omega arith, refl))
+    (λ c. search needs)
     (λ c κs. search needs)
     (λ c. search needs)
     (λ c. search needs)

@@ -12,6 +12,7 @@ recorder-read-header-spec =
     (tie.spec
     (λ c κs. search needs)
     (λ c. search needs)
+    (λ c κs. search needs)
     (λ c. search needs)
-    (λ c. gives (c .before .job .given .1) refl (c .before .before .before .read-header .ensures))
+    (λ c. rw (c .set-byte .ensures) (gives (c .before .before .job .given .1) refl (c .before .before .before .before .read-header .ensures)))
     (λ c. refuses (c .before .number .given .1) refl (c .before .before .before .read-header .ensures)))

@@ -10,4 +10,7 @@ awaited-of-spec =
     (tie.spec
     (λ c. search tests)
     (λ c. search tests)
+    (λ c. search tests)
+    (λ c. search tests)
+    (λ c. search tests)
     (λ c. search tests))

@@ -21,4 +21,5 @@ odd-flag-spec =
     (λ c. search needs)
     (λ c. search needs)
     (λ c. search needs)
+    (λ c. search needs)
     (λ c. refl))

@@ -6,7 +6,7 @@ use native.Mathlib.Omega.{arith}
 use borrow.Author.Needs.{needs}
 use denote.Ref.{now}
 use Rattle.paper.specs.Sheet.{sheet0713}
-use Rattle.controller.specs.State.{poweredUp, run}
+use Rattle.controller.specs.State.{poweredUpIn, run}
 use Rattle.recorder.proofs.JobFile.{same-cycles}
 use Rattle.viewer.proofs.play.after.Statement.{statement}
 use Rattle.viewer.proofs.play.after.Tie as tie
@@ -18,8 +18,8 @@ returns c =
     let e : 8 + 2 * n - 8 ≡ 2 * n = omega arith in
     let q = rw e at (c .before .before .from-power-up .ensures) in
     record {
-      after = q .after ∙ ap (run sheet0713 (poweredUp sheet0713 _)) (same-cycles (now (held .args .file)) 0 n (omega (arith, held .pre .0 .whole)));
-      ranged = q .ranged;
+      after = q .after ∙ ap (run sheet0713 (poweredUpIn sheet0713 _ _)) (same-cycles (now (held .args .file)) 0 n (omega (arith, held .pre .0 .whole)));
+      inside = q .inside;
     }
 
 pub after-spec : {M : Type 1} → statement M

@@ -10,7 +10,7 @@ never c =
     let s = c .before .before .before .before .before .before .before .before in
     let u = s .before .before .before .before .before .before in
     let p = u .before .before .before .before .before .before .before .pre in
-    absurd (run-never (u .power-up .ensures) (s .run .ensures) (p .0) (p .1) (u .before .before .before .before .room .ensures) (u .before .before .before .room2 .ensures) (u .before .before .room3 .ensures) (u .before .room4 .ensures) (c .enum-told .given .1))
+    absurd (run-never (u .power-up-in .ensures) (s .run .ensures) (p .0) (p .1) (u .before .before .before .before .room .ensures) (u .before .before .before .room2 .ensures) (u .before .before .room3 .ensures) (u .before .room4 .ensures) (c .enum-told .given .1))
 
 pub from-power-up-spec : {M : Type 1} → statement M
 from-power-up-spec =
@@ -29,6 +29,6 @@ from-power-up-spec =
     (λ c. search needs)
     (λ c. search needs)
     (λ c. search needs)
-    (λ c. let s = c .before .before .before .before .before .before .before .before .before in run-given (s .before .before .before .before .before .before .power-up .ensures) (s .run .ensures) (c .before .after .given .1))
+    (λ c. let s = c .before .before .before .before .before .before .before .before .before in run-given (s .before .before .before .before .before .before .power-up-in .ensures) (s .run .ensures) (c .before .after .given .1))
     (λ c. search needs)
     never)

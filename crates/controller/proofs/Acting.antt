@@ -27,7 +27,7 @@ use Rattle.controller.proofs.Keeping.{stays-inside, stays-set}
 -- ---- no number before 4
 
 module _ (k : Sheet) (s : State) (kind value : ℕ) where
-  passes : length (s .memory) ≡ 9 * k .width → outside k (s .registers) ≡ false → malformed kind value ≡ false → heldLow (s .registers) kind ≡ false
+  pub passes : length (s .memory) ≡ 9 * k .width → outside k (s .registers) ≡ false → malformed kind value ≡ false → heldLow (s .registers) kind ≡ false
       → refusal k (length (s .memory)) (s .registers) kind value ≡ 0
   unfolding refusal
   passes long ranged formed free = simp (eq-eqb (length (s .memory)) (9 * k .width) long, ranged, formed, free)
@@ -37,7 +37,7 @@ module _ (k : Sheet) (s : State) (kind value : ℕ) where
   CarriedOut = (answer k (s .registers) (s .memory) kind value ≡ carried k (s .registers) (s .memory) kind value)
       × (memoryAfter k (s .registers) (s .memory) kind value ≡ kept (k .width) (s .registers) (s .memory) kind value)
 
-  carried-out : refusal k (length (s .memory)) (s .registers) kind value ≡ 0 → CarriedOut
+  pub carried-out : refusal k (length (s .memory)) (s .registers) kind value ≡ 0 → CarriedOut
   unfolding answer memoryAfter
   carried-out e = (rw e, rw e)
 

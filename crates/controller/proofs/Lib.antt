@@ -10,6 +10,8 @@ pub mod Spelled
 pub mod Readers
 pub mod Resetting
 pub mod Marks
+pub mod OldSet
+pub mod NewSet
 pub mod Fresh
 pub mod Refusals
 pub mod ShutOuts

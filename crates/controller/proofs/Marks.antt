@@ -34,7 +34,7 @@ abbrev Marks : Registers → Outcome → Option Bool → Type 0
 Marks r o c = afterBy r (o .registers) .fresh ≡ lastCounted (r .fresh) (cond (eqb (o .number) 0) c none ∷ [])
 
 -- what holds of two pairs holds of the pair that is chosen
-both-chosen : {A B : Type 0} (P : A → B → Type 0) (t : Bool) {x y : A} {u v : B} → P x u → P y v → P (cond t x y) (cond t u v)
+pub both-chosen : {A B : Type 0} (P : A → B → Type 0) (t : Bool) {x y : A} {u v : B} → P x u → P y v → P (cond t x y) (cond t u v)
 both-chosen P true p q = p
 both-chosen P false p q = q
 

@@ -104,6 +104,8 @@ fn good() {
     example(b"end-1.job");
     example(b"end-2.job");
     example(b"end-3.job");
+    example(b"ks0759.job");
+    example(b"new-set.job");
 }
 
 // Damaged files, of each kind.
@@ -120,6 +122,8 @@ fn bad() {
     bad_example(b"kind-six.job");
     bad_example(b"status-value.job");
     bad_example(b"pin-value.job");
+    bad_example(b"two-new.job");
+    bad_example(b"field-512.job");
 }
 
 fn main() {

@@ -3,3 +3,4 @@ pub mod Places
 pub mod Ratios
 pub mod Promised
 pub mod Readers
+pub mod EitherSet

@@ -10,6 +10,9 @@
 #define model_first_difference fast_first_difference
 #define model_update_length fast_update_length
 #define model_update fast_update
+#define model_switch_set fast_switch_set
+#define model_read_added fast_read_added
+#define model_write_added fast_write_added
 #define model_redraw fast_redraw
 #define model_write_job fast_write_job
 #define model_write_text fast_write_text

@@ -5,7 +5,7 @@ struct desk desk;
 /* the model's calls once more, under the names of fast.h and fast0717.h */
 MODEL_CALLS(fast)
 MODEL_CALLS(fast0717)
-uint8_t fast_write_job(const uint8_t *, size_t, size_t, const uint8_t *, size_t, uint8_t *, size_t, size_t *);
+uint8_t fast_write_job(uint8_t, const uint8_t *, size_t, size_t, const uint8_t *, size_t, uint8_t *, size_t, size_t *);
 uint8_t fast_write_text(const uint8_t *, size_t, uint8_t *, size_t, size_t *);
 uint8_t fast_read_text(const uint8_t *, size_t, uint8_t *, size_t, size_t *, size_t *);
 
@@ -26,11 +26,11 @@ uint8_t fast_read_text(const uint8_t *, size_t, uint8_t *, size_t, size_t *, siz
 
 #define CALLS_OF(side, list, ...) { side##_update, side##_length, side##_first, side##_redraw, side##_cycle, list, side##_frame, side##_read, side##_reads, side##_write, side##_power, side##_v0, __VA_ARGS__ }
 
-/* a list as text, the text read again, and the list as a job with two pictures */
+/* a list as text, the text read again, and the list as a job of the old set with two pictures */
 #define RECORDING(side, prefix) \
     static void side##_write_text(void) { prefix##_write_text(desk.cycles, 2 * desk.laps, desk.text, sizeof desk.text, &desk.length); } \
     static void side##_read_text(void) { prefix##_read_text(desk.text, desk.length, desk.list, sizeof desk.list, &desk.count, &desk.line); } \
-    static void side##_write_job(void) { prefix##_write_job(desk.cycles, 2 * desk.laps, 2, desk.pictures, sizeof desk.pictures, desk.job, sizeof desk.job, &desk.count); }
+    static void side##_write_job(void) { prefix##_write_job(PANEL_SET_OLD, desk.cycles, 2 * desk.laps, 2, desk.pictures, sizeof desk.pictures, desk.job, sizeof desk.job, &desk.count); }
 #define RECORDS(side) side##_write_text, side##_read_text, side##_write_job
 
 /* a list of cycles with each one's answer: the library unpacks its state once, the model's struct is at hand */

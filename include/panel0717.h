@@ -1,9 +1,11 @@
-/* The panel library for the KS0717, the 100-segment chip: what panel.h has for the KS0713, call for call.
+/* The panel library for the KS0717, the 100-segment chip: what panel.h has for the KS0713, call for call. Only the reader and the writer
+ * of the new command set's bytes are not here: the bytes are the same on both chips, and panel_read_added and panel_write_added are for
+ * both (libpanel.a).
  *
- * The state is the same 32 bytes with the same offsets (PANEL_STATE, PANEL_AT_..), and refusals, kinds, instructions by number and
- * power states have the numbers of panel.h. What every call here does is proved (crates/panel0717); what the head of panel.h leaves to
- * the caller, and what it says of refusals, of calls at the same time and of hosts, holds here too. The archive is libpanel0717.a. It can
- * be linked into one program with libpanel.a.
+ * The state is the same 32 bytes with the same offsets (PANEL_STATE, PANEL_AT_..), and refusals, command sets, kinds, instructions by
+ * number and power states have the numbers of panel.h. What every call here does is proved (crates/panel0717); what the head of panel.h
+ * leaves to the caller, and what it says of refusals, of calls at the same time and of hosts, holds here too. The archive is
+ * libpanel0717.a. It can be linked into one program with libpanel.a.
  *
  * What differs:
  *   - a picture, the memory and a frame are 900 bytes: 9 pages of 100 columns, byte 100 * page + column. Any other length, 1,188 too,
@@ -49,15 +51,18 @@ uint8_t panel0717_frame(const uint8_t state[PANEL_STATE], const uint8_t *memory,
 /* The power state, one of PANEL_POWER_.., into *answer. Refuses with 2. */
 uint8_t panel0717_power_state(const uint8_t state[PANEL_STATE], uint8_t *answer);
 
+/* Puts the state into a command set, as panel_switch_set does. Refuses with 2 (state, or a set above 1), 13. */
+uint8_t panel0717_switch_set(uint8_t state[PANEL_STATE], uint8_t set);
+
 /* V0 in millivolts is *numerator / 27. Refuses with 2 a resistor above 7 or a contrast above 63. */
 uint8_t panel0717_v0(uint8_t resistor, uint8_t contrast, uint32_t *numerator);
 
 /* ---- instruction bytes */
 
-/* Reads one byte, as panel_read_instruction does. Refuses with 2 (awaited above 2), 4. */
+/* Reads one byte of the old set, as panel_read_instruction does. Refuses with 2 (awaited above 2), 4. */
 uint8_t panel0717_read_instruction(uint8_t awaited, uint8_t byte, uint8_t *number, uint8_t *value);
 
-/* Writes an instruction, as panel_write_instruction does. Refuses with 6. */
+/* Writes an instruction of the old set, as panel_write_instruction does. Refuses with 6. */
 uint8_t panel0717_write_instruction(uint8_t number, uint8_t value, uint8_t *byte);
 
 /* ---- pictures and streams */

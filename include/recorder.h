@@ -33,11 +33,12 @@ enum {
     RECORDER_PLAYED_MOST = 210000   /* the player's text */
 };
 
-/* A job file of the cycles and of `count` pictures of 1,188 bytes, one behind the other; *length is the file's. Refuses with 1 (pictures
- * that are not `count` of 1,188 bytes), 6 (more than 16,000 cycles, more than two pictures, a kind above 5, or a value other than 0 in
- * kinds 2 to 5), 5 (an output shorter than the file). */
-uint8_t recorder_write_job(const uint8_t *cycles, size_t cycles_length, size_t count, const uint8_t *pictures, size_t pictures_length,
-                           uint8_t *out, size_t out_length, size_t *length);
+/* A job file that powers up in the command set `set` (PANEL_SET_OLD, PANEL_SET_NEW), of the cycles and of `count` pictures of 1,188
+ * bytes, one behind the other; *length is the file's. Refuses with 1 (pictures that are not `count` of 1,188 bytes), 6 (a set above 1,
+ * more than 16,000 cycles, more than two pictures, in the new set more than one, a kind above 5, or a value other than 0 in kinds 2 to
+ * 5), 5 (an output shorter than the file). */
+uint8_t recorder_write_job(uint8_t set, const uint8_t *cycles, size_t cycles_length, size_t count, const uint8_t *pictures,
+                           size_t pictures_length, uint8_t *out, size_t out_length, size_t *length);
 
 /* The text of the cycles; *length is the text's. Refuses with 6 (more than 16,000 cycles, a kind above 5, or a value other than 0 in
  * kinds 2 to 5), 5 (an output shorter than the text). */
@@ -48,9 +49,10 @@ uint8_t recorder_write_text(const uint8_t *cycles, size_t cycles_length, uint8_t
  * than the cycles' bytes). Only 11 sets *line. */
 uint8_t recorder_read_text(const uint8_t *text, size_t text_length, uint8_t *out, size_t out_length, size_t *count, size_t *line);
 
-/* How many cycles and how many pictures a job file has: its cycles stand from byte 8 on, its pictures behind them. Refuses with 7 (fewer
- * than 8 bytes), 8 (a count, an offset or the length is wrong), 9 (a kind above 5, or a value other than 0 in kinds 2 to 5). */
-uint8_t recorder_read_header(const uint8_t *file, size_t file_length, size_t *cycles, size_t *pictures);
+/* How many cycles and how many pictures a job file has, and the command set that it powers up in: its cycles stand from byte 8 on, its
+ * pictures behind them. Refuses with 7 (fewer than 8 bytes), 8 (a count, an offset or the length is wrong), 9 (a kind above 5, or a value
+ * other than 0 in kinds 2 to 5). */
+uint8_t recorder_read_header(const uint8_t *file, size_t file_length, size_t *cycles, size_t *pictures, uint8_t *set);
 
 /* The player's text of a job file, as ./play writes it; *length is the text's. A file that recorder_read_header refuses gives the one
  * line `bad` and the number, and is no refusal of this call. Refuses with 5 (an output shorter than the text). */

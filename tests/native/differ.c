@@ -47,7 +47,10 @@ static int same(const char *what, int ok)
     return ok;
 }
 
-/* ---- states: in range, or with one byte anywhere */
+/* ---- states of either set: in range, or with one byte anywhere */
+
+/* a value of a range, its ends often */
+static uint8_t within(uint32_t low, uint32_t high) { return below(4) ? low + below(high - low + 1) : below(2) ? low : high; }
 
 static void good_state(uint8_t s[PANEL_STATE])
 {
@@ -58,17 +61,23 @@ static void good_state(uint8_t s[PANEL_STATE])
     for (int i = 6; i < 13; i++) s[i] = below(2);
     s[13] = below(4), s[14] = rnd();
     s[15] = below(8) == 0;
-    s[16] = below(2), s[17] = s[16] ? below(COUNTER) : 0, s[18] = below(3), s[19] = below(2);
+    s[16] = below(2), s[17] = s[16] ? below(COUNTER) : 0, s[19] = below(2);
+    s[20] = below(3) == 0, s[18] = !s[20] ? below(3) : below(2) ? 3 + below(3) : 0;
+    s[21] = within(0, 79), s[22] = within(17, 81), s[23] = below(4) ? within(3, 33) : 0;
 }
 static void any_state(uint8_t s[PANEL_STATE])
 {
     good_state(s);
-    switch (below(8)) {
-    case 0: s[below(PANEL_STATE)] = rnd(); break;
-    case 1: s[3] = 62 + below(4); break;
-    case 2: s[16] = 0, s[17] = below(4); break;
-    case 3: s[6 + below(14)] = below(4); break;
-    case 4: s[below(2) ? 1 : 17] = 126 + below(4); break;
+    switch (below(16)) {
+    case 0: case 1: s[below(PANEL_STATE)] = rnd(); break;
+    case 2: s[3] = 62 + below(4); break;
+    case 3: s[16] = 0, s[17] = below(4); break;
+    case 4: case 5: s[6 + below(15)] = below(4); break;
+    case 6: s[below(2) ? 1 : 17] = 126 + below(4); break;
+    case 7: s[18] = below(8); break; /* at times a byte of the other set */
+    case 8: s[21] = (below(2) ? 78 : 126) + below(4); break;
+    case 9: s[22] = below(4) ? (below(2) ? 15 : 80) + below(4) : 0; break;
+    case 10: s[23] = below(2) ? below(5) : 32 + below(4); break;
     default: break;
     }
 }
@@ -76,7 +85,7 @@ static void to_model(struct model_registers *r, const uint8_t s[PANEL_STATE]) { 
 /* a spare byte is no register of the model's: it is out of range by the header's own words */
 static int spare(const uint8_t s[PANEL_STATE])
 {
-    for (int i = 20; i < PANEL_STATE; i++) if (s[i]) return 1;
+    for (int i = 24; i < PANEL_STATE; i++) if (s[i]) return 1;
     return 0;
 }
 
@@ -158,10 +167,11 @@ static void frames(void)
     same("v0", n1 == n2 && v1 == v2);
 }
 
-/* all of them: 4 x 256 readings, 32 x 256 writings */
+/* all of them: 8 x 256 readings, 32 x 256 writings; and of the new set, whose reader and writer are the same for both chips,
+   8 x 256 and 16 x 256 */
 static void bytes(void)
 {
-    for (int a = 0; a < 4; a++) for (int b = 0; b < 256; b++) {
+    for (int a = 0; a < 8; a++) for (int b = 0; b < 256; b++) {
         uint8_t n1 = 99, n2 = 99, v1 = 98, v2 = 98;
         uint8_t r1 = PANEL(read_instruction)(a, b, &n1, &v1), r2 = MODEL(read_instruction)(a, b, &n2, &v2);
         numbers[r2]++;
@@ -173,14 +183,60 @@ static void bytes(void)
         numbers[r2]++;
         same("write_instruction", r1 == r2 && b1 == b2);
     }
+    for (int a = 0; a < 8; a++) for (int b = 0; b < 256; b++) {
+        uint8_t n1 = 99, n2 = 99, v1 = 98, v2 = 98;
+        uint8_t r1 = panel_read_added(a, b, &n1, &v1), r2 = MODEL(read_added)(a, b, &n2, &v2);
+        numbers[r2]++;
+        same("read_added", r1 == r2 && n1 == n2 && v1 == v2);
+    }
+    for (int n = 0; n < 16; n++) for (int v = 0; v < 256; v++) {
+        uint8_t b1 = 97, b2 = 97;
+        uint8_t r1 = panel_write_added(n, v, &b1), r2 = MODEL(write_added)(n, v, &b2);
+        numbers[r2]++;
+        same("write_added", r1 == r2 && b1 == b2);
+    }
 }
 
-static void some_cycle(uint8_t *kind, uint8_t *value)
+/* a switch of the command set, at times to one that there is none of */
+static int switched(uint8_t s[PANEL_STATE], struct model_registers *r)
 {
-    static const uint8_t often[8] = { 0x81, 0xAD, 0xE0, 0xEE, 0xE2, 0xB8, 0x10 + (COLUMNS - 1) / 16, (COLUMNS - 1) % 16 };
-    *kind = below(20) ? below(4) : below(8), *value = rnd();
-    if (*kind == 0 && below(3) == 0) *value = often[below(8)];
+    uint8_t set = below(8) ? below(2) : below(2) ? 2 : 255, before[PANEL_STATE];
+    memcpy(before, s, PANEL_STATE);
+    uint8_t n1 = PANEL(switch_set)(s, set), n2 = spare(before) ? 2 : MODEL(switch_set)(r, set);
+    numbers[n2]++;
+    return same("switch_set", n1 == n2 && !memcmp(s, r, sizeof *r) && !memcmp(s + sizeof *r, before + sizeof *r, PANEL_STATE - sizeof *r));
+}
+static void switches(void)
+{
+    uint8_t s[PANEL_STATE];
+    struct model_registers r;
+    any_state(s);
+    to_model(&r, s);
+    switched(s, &r);
+}
+
+/* second bytes of the new set about the bounds of what they set, and E4 */
+static uint8_t some_second(void)
+{
+    static const uint8_t bounds[12] = { 0x4F, 0x50, 0xD0, 0x10, 0x11, 0x51, 0x52, 0x00, 0x01, 0x1F, 0x20, 0xE4 };
+    return bounds[below(12)];
+}
+static uint8_t some_instruction(void)
+{
+    static const uint8_t often[9] = { 0x81, 0xAD, 0xE0, 0xEE, 0xE2, 0xE3, 0xB8, 0x10 + (COLUMNS - 1) / 16, (COLUMNS - 1) % 16 };
+    switch (below(6)) {
+    case 0: case 1: return often[below(9)];
+    case 2: return 0x44 + below(12);
+    case 3: return some_second();
+    default: return rnd();
+    }
+}
+/* any cycle; where a byte of the new set is awaited, mostly that one, and at times pin low */
+static void some_cycle(uint8_t awaited, uint8_t *kind, uint8_t *value)
+{
+    *kind = below(20) ? below(4) : below(8), *value = *kind == 0 ? some_instruction() : rnd();
     if (*kind >= 2 && below(20)) *value = 0;
+    if (awaited > 2 && below(3)) *kind = below(6) ? 0 : 4, *value = *kind ? 0 : some_second();
 }
 
 #ifndef KS0717
@@ -212,7 +268,7 @@ static void lists(void)
     if (below(4)) good_state(s); else any_state(s);
     to_model(&r, s);
     for (int i = 0; i < ROOM; i++) m1[i] = m2[i] = rnd();
-    for (size_t i = 0; i < n; i++) some_cycle(&list[2 * i], &list[2 * i + 1]);
+    for (size_t i = 0; i < n; i++) some_cycle(i ? 0 : s[18], &list[2 * i], &list[2 * i + 1]);
     list[2 * n] = rnd();
     for (int i = 0; i < 4; i++) {
         room[i] = below(20) ? n + below(4) : n ? n - 1 : 0;
@@ -229,7 +285,7 @@ static void lists(void)
 
 #endif
 
-/* one cycle, from the state that the last one left or from another, in range or not */
+/* one cycle, from the state that the last one left or from another, in range or not; between two of them at times a switch */
 static void cycles(long count)
 {
     static uint8_t m1[ROOM], m2[ROOM];
@@ -241,11 +297,12 @@ static void cycles(long count)
     for (int i = 0; i < ROOM; i++) m1[i] = m2[i] = rnd();
     for (long i = 0; i < count; i++) {
         uint8_t kind, value;
-        some_cycle(&kind, &value);
         if (below(16) == 0) {
             if (below(2)) any_state(s); else good_state(s);
             to_model(&r, s);
         }
+        if (below(16) == 0 && !switched(s, &r)) { good_state(s); to_model(&r, s); }
+        some_cycle(s[18], &kind, &value);
         size_t length = below(200) ? N : below(2) ? OTHER : below(ROOM);
         uint8_t before[PANEL_STATE], g1 = 7, g2 = 7, b1 = 5, b2 = 5, f1 = 3, f2 = 3;
         memcpy(before, s, PANEL_STATE);
@@ -264,18 +321,18 @@ static void cycles(long count)
 int COMPARE(long n, long c);
 int COMPARE(long n, long c)
 {
-    static const int must[7] = { 1, 2, 3, 4, 5, 6, 9 };
+    static const int must[8] = { 1, 2, 3, 4, 5, 6, 9, 13 };
     bytes();
     for (long i = 0; i < n && differences < 5; i++) streams();
-    for (long i = 0; i < n / 4 && differences < 5; i++) frames();
+    for (long i = 0; i < n / 4 && differences < 5; i++) frames(), switches();
 #ifndef KS0717
     for (long i = 0; i < n / 4 && differences < 5; i++) lists();
 #endif
     if (differences < 5) cycles(c);
     int missing = 0;
-    for (int i = 0; i < 7; i++) if (!numbers[must[i]]) { printf(CHIP ": refusal %d never occurred\n", must[i]); missing = 1; }
-    printf(CHIP ": %lu comparisons, %lu differences; refusals 1: %lu, 2: %lu, 3: %lu, 4: %lu, 5: %lu, 6: %lu, 9: %lu\n", cases, differences,
-           numbers[1], numbers[2], numbers[3], numbers[4], numbers[5], numbers[6], numbers[9]);
+    for (int i = 0; i < 8; i++) if (!numbers[must[i]]) { printf(CHIP ": refusal %d never occurred\n", must[i]); missing = 1; }
+    printf(CHIP ": %lu comparisons, %lu differences; refusals 1: %lu, 2: %lu, 3: %lu, 4: %lu, 5: %lu, 6: %lu, 9: %lu, 13: %lu\n", cases,
+           differences, numbers[1], numbers[2], numbers[3], numbers[4], numbers[5], numbers[6], numbers[9], numbers[13]);
     return differences || missing;
 }
 

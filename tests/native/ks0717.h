@@ -11,6 +11,9 @@
 #define model_first_difference model0717_first_difference
 #define model_update_length model0717_update_length
 #define model_update model0717_update
+#define model_switch_set model0717_switch_set
+#define model_read_added model0717_read_added
+#define model_write_added model0717_write_added
 #define model_redraw model0717_redraw
 
 /* "Its memory is 65 by 100, so a picture is 900 bytes". Picture and redraw ("the redraw 931") follow in model.c. */

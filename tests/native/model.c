@@ -1,9 +1,9 @@
-/* The panel model of model.h, written from document 01 and orders 2 and 5 alone and, for the second chip, from order 1.
+/* The panel model of model.h, written from document 01 and orders 2, 5 and 13 alone and, for the second chip, from order 1.
    Compiled as it is, this file is the model of the KS0713; compiled with -include ks0717.h it is that of the KS0717, under
    the names and with the numbers given there. The chips differ in the numbers of the first block below and in nothing else.
    Sentences in quotes are document 01's own, and after "Order 1:" the order's, which hold for the KS0717 in place of
-   those of 01, and after "Order 2:" and "Order 5:" those orders', which hold for both chips; "Decision" marks a point
-   settled by combining them.
+   those of 01, and after "Order 2:", "Order 5:" and "Order 13:" those orders', which hold for both chips; "Decision" marks
+   a point settled by combining them and "Settled" a reading settled beforehand.
    Words in the form @name are markers for faults.txt (here and in ks0717.h) and mean nothing else.
 
    Nothing here checks for null pointers, and lent buffers are taken not to overlap one another
@@ -45,18 +45,27 @@
 #define REDRAW (4u + PAGES * (COLUMNS + 3u))
 /* "Start values are 0 and off, except contrast 32 (house)." The same on both chips; the pin and E2 take it from here. */
 #define CONTRAST_START 32u /* @start_contrast */
+/* Order 13: "The three start at 0, 81 and 0 (house)". Duty's start, the same on both chips. */
+#define DUTY_START 81u /* @start_duty */
+
+/* The words of the register "set". Order 13: "The shared state gains a command-set version." */
+#define SET_OLD 0u
+#define SET_NEW 1u
 
 /* The words of the register "awaited". */
 #define AWAITS_NOTHING 0u
 #define AWAITS_CONTRAST 1u
 #define AWAITS_INDICATOR 2u
+#define AWAITS_COM0 3u
+#define AWAITS_DUTY 4u
+#define AWAITS_INVERSION 5u
 
 /* The words of "counts" (order 2): not at all, as a data read, as one of the others. */
 #define COUNTS_NOT 0u
 #define COUNTS_AS_READ 1u
 #define COUNTS_AS_OTHER 2u
 
-/* Instruction numbers of model.h. */
+/* Instruction numbers of model.h, those of the old set. */
 #define I_COLUMN_LOW 0u
 #define I_COLUMN_HIGH 1u
 #define I_RESISTOR 2u
@@ -78,6 +87,15 @@
 #define I_MODIFY_OFF 18u
 #define I_RESET 19u
 #define I_NOTHING 20u
+
+/* Instruction numbers of model.h, those of the new set. */
+#define A_COM0_NEXT 0u
+#define A_COM0_VALUE 1u
+#define A_DUTY_NEXT 2u
+#define A_DUTY_VALUE 3u
+#define A_INVERSION_NEXT 4u
+#define A_INVERSION_VALUE 5u
+#define A_FRAME_INVERSION 6u
 
 /* ---------------------------------------------------------------- memory and registers */
 
@@ -109,6 +127,25 @@ static int in_counter(unsigned column)
     return column <= COUNTER_LAST;
 }
 
+/* Order 13: "Values these bytes can't set meet 2, and so does an awaited byte of the other set: contrast and indicator bytes
+   belong to the old one, these three to the new." Settled: in both sets.
+   What the bytes can set: Order 13: "initial COM0 for 0 to 79 and duty for 17 to 81"; "the inversion byte mod 32 sets 0 for
+   frame inversion, or its value plus 2 lines", which is 0 or 3 to 33. */
+static int added_in_range(const struct model_registers *r)
+{
+    if (r->set > SET_NEW) return 0;
+    if (r->com0 > 79u) return 0; /* @range_com0 */
+    if (r->duty < 17u) return 0;
+    if (r->duty > 81u) return 0;
+    if (r->inversion == 1u || r->inversion == 2u) return 0; /* @range_inversion_low */
+    if (r->inversion > 33u) return 0; /* @range_inversion_high */
+    if (r->awaited > AWAITS_INVERSION) return 0;
+    if (r->set == SET_NEW && r->awaited == AWAITS_CONTRAST) return 0; /* @range_old_contrast */
+    if (r->set == SET_NEW && r->awaited == AWAITS_INDICATOR) return 0;
+    if (r->set == SET_OLD && r->awaited > AWAITS_INDICATOR) return 0; /* @range_new_byte */
+    return 1;
+}
+
 /* "Registers: page 0..15; column 0..255; start line 0..63; contrast 0..63; resistor 0..7; power 0..7 (VC, VR, VF);
    bias, ADC, SHL, reverse, entire display, display on and indicator mode, each 0 or 1; indicator value 0..3; bus holder,
    a byte; reset pin."
@@ -119,7 +156,9 @@ static int in_counter(unsigned column)
    state and so out of range.
    Order 2: "A data read's answer shall tell fresh from stale"; "Refusals: none new."
    Decision: what it tells is a part of the state, the register fresh of 0 or 1, and so under number 2 as those of 01 are.
-   It stands by itself: a state of pin low and fresh 1 is in range, though no cycles from power-up lead to it. */
+   It stands by itself: a state of pin low and fresh 1 is in range, though no cycles from power-up lead to it.
+   The set, order 13's three numbers and the awaited byte are looked at in added_in_range. Decision: they stand by
+   themselves too, so a byte awaited while the pin is low is in range. */
 static int in_range(const struct model_registers *r)
 {
     if (r->page > 15u) return 0;
@@ -140,15 +179,16 @@ static int in_range(const struct model_registers *r)
     if (r->modify_read > 1u) return 0;
     if (!in_counter(r->saved_column)) return 0; /* @saved_counter */
     if (r->modify_read == 0u && r->saved_column != 0u) return 0; /* @range_saved */
-    if (r->awaited > 2u) return 0;
     if (r->fresh > 1u) return 0; /* @range_fresh */
-    return 1;
+    return added_in_range(r);
 }
 
 /* "Pin low: every register takes its start value, the awaited byte and the saved column are forgotten, memory and holder
    are kept (house). Start values are 0 and off, except contrast 32 (house)." On the KS0717 the resistor's is 4 (ks0717.h).
    Decision: the pin itself is a register, and the cycle leaves it low. The mark of order 2 is not put here: see
-   counts. */
+   counts.
+   Order 13: "The three start at 0, 81 and 0 (house), also at pin low, which keeps the set." So set is the one register,
+   beside the holder, that is not put here. */
 static void pin_goes_low(struct model_registers *r)
 {
     r->page = 0;
@@ -168,6 +208,9 @@ static void pin_goes_low(struct model_registers *r)
     r->modify_read = 0;
     r->saved_column = 0;
     r->awaited = AWAITS_NOTHING;
+    r->com0 = 0;
+    r->duty = DUTY_START;
+    r->inversion = 0;
     r->pin_low = 1;
 }
 
@@ -178,26 +221,42 @@ static void pin_goes_high(struct model_registers *r)
 }
 
 /* "The power-up state is pin low then high, holder 0, memory as lent."
-   Order 2: "Power-up is stale" */
+   Order 2: "Power-up is stale"
+   Settled: power-up is in the old set. A job that "powers up in the new set" (order 13) switches to it: see recording.c. */
 void model_power_up(struct model_registers *r)
 {
     pin_goes_low(r);
     pin_goes_high(r);
     r->holder = 0;
     r->fresh = 0; /* @mark_power_up */
+    r->set = SET_OLD;
+}
+
+/* Order 13: "Switching sets changes nothing else." Order 13: "Refusals: new 13, byte awaited at a switch, after 2."
+   Settled: 2 is a register outside its range or a set above 1; 13 is given at a switch to the set in force too. A switch is
+   no bus cycle: it works with the pin low, and the mark of order 2 stays. */
+uint8_t model_switch_set(struct model_registers *r, uint8_t set)
+{
+    if (!in_range(r) || set > SET_NEW) /* @switch_two */
+        return 2;
+    if (r->awaited != AWAITS_NOTHING) /* @switch_thirteen */
+        return 13;
+    r->set = set; /* @switch_set */
+    return 0;
 }
 
 /* ---------------------------------------------------------------- instruction bytes */
 
 /* "Reader and writer take one byte at a time: 81 and AD are instructions of their own, and so is each second byte, read
    as one when it is awaited."
-   Decision: awaited is a register, so a word above 2 is refusal 2, before 4 ("The order is 1, 2, 6, 3, 4, 5"). */
+   Decision: awaited is a register, so a word above 2 is refusal 2, before 4 ("The order is 1, 2, 6, 3, 4, 5").
+   Order 13: "an awaited byte of the other set". Settled: this is the old set's reader, so 3, 4 and 5 are 2 as before. */
 uint8_t model_read_instruction(uint8_t awaited, uint8_t byte, uint8_t *number, uint8_t *value)
 {
     uint8_t n, v;
 
     /* 2: "a register is outside its range" */
-    if (awaited > 2u)
+    if (awaited > 2u) /* @read_awaited */
         return 2;
 
     /* "An awaited second byte is taken whatever its value." */
@@ -433,7 +492,7 @@ static void carry_out(struct model_registers *r, uint8_t number, uint8_t value)
        Decision: this stands in place of the row's "nothing else". The saved column is forgotten, not restored: modify-read
        is off and the column 0. The start values are the chip's own, those of pin_goes_low. "All else" is power, bias, ADC,
        reverse, entire display, display on, holder and pin; an E2 that is awaited is the second byte and not this one. The
-       mark of order 2 is no part of this: see counts. */
+       mark of order 2 is no part of this: see counts. Settled: nor are order 13's three numbers and the set. */
     case I_RESET:
         r->start_line = 0;
         r->column = 0; /* @reset_column */
@@ -447,6 +506,131 @@ static void carry_out(struct model_registers *r, uint8_t number, uint8_t value)
         break;
     /* "E3 | nothing" */
     default:
+        break;
+    }
+}
+
+/* ---------------------------------------------------------------- instruction bytes of the new set */
+
+/* Order 13: "bytes 44-47, 48-4B and 4C-4F open two-byte instructions for initial COM0, partial duty and line inversion."
+   "Reader and writer take one byte at a time", as in the old set. Refusals in the order 2, 4. None of it depends on the
+   chip. */
+uint8_t model_read_added(uint8_t awaited, uint8_t byte, uint8_t *number, uint8_t *value)
+{
+    uint8_t n, v;
+
+    /* 2: "a register is outside its range". Order 13: "and so does an awaited byte of the other set" */
+    if (awaited > AWAITS_INVERSION)
+        return 2;
+    if (awaited == AWAITS_CONTRAST || awaited == AWAITS_INDICATOR)
+        return 2;
+
+    /* "An awaited second byte is taken whatever its value." Settled: E4 too, which is 6 lines as inversion byte. Decision:
+       so are 44-4F. */
+    if (awaited == AWAITS_COM0) {
+        /* Order 13: "the second byte mod 128 sets initial COM0 [...] and duty" */
+        n = A_COM0_VALUE;
+        v = (uint8_t)(byte % 128u); /* @added_com0_mod */
+    } else if (awaited == AWAITS_DUTY) {
+        n = A_DUTY_VALUE;
+        v = (uint8_t)(byte % 128u);
+    } else if (awaited == AWAITS_INVERSION) {
+        /* Order 13: "the inversion byte mod 32" */
+        n = A_INVERSION_VALUE;
+        v = (uint8_t)(byte % 32u);
+    } else if (byte >= 0x44u && byte <= 0x47u) {
+        /* Order 13: "bytes 44-47, 48-4B and 4C-4F open two-byte instructions". Decision: the low two bits are free. */
+        n = A_COM0_NEXT;
+        v = 0;
+    } else if (byte >= 0x48u && byte <= 0x4Bu) { /* @added_48 */
+        n = A_DUTY_NEXT;
+        v = 0;
+    } else if (byte >= 0x4Cu && byte <= 0x4Fu) {
+        n = A_INVERSION_NEXT;
+        v = 0;
+    } else if (byte == 0xE4u) {
+        /* Order 13: "E4 returns to frame inversion" */
+        n = A_FRAME_INVERSION;
+        v = 0;
+    } else {
+        /* Order 13: "with nothing awaited, any other instruction byte in the new set is refused with 4, assigned by the
+           sheet or not". Settled: so are 40-43, 81, AC, AD, E0, E2, E3, EE, pages and columns. */
+        return 4;
+    }
+
+    *number = n;
+    *value = v;
+    return 0;
+}
+
+/* "The writer puts free bits, of second bytes too, to 0." Settled: 44, 48, 4C, E4.
+   6: "a value to write is outside its field". Settled: the field is what the byte is after mod, also where the value does
+   nothing; another number than 0 to 6 is 6 too, and where there is no field the only value is 0. */
+uint8_t model_write_added(uint8_t number, uint8_t value, uint8_t *byte)
+{
+    uint8_t first; /* the byte for value 0 */
+    uint8_t top;   /* the largest value of the field */
+
+    switch (number) {
+    /* Order 13: "bytes 44-47, 48-4B and 4C-4F open two-byte instructions"; "the second byte mod 128"; "the inversion byte
+       mod 32" */
+    case A_COM0_NEXT: first = 0x44; top = 0; break;
+    case A_COM0_VALUE: first = 0x00; top = 127; break;
+    case A_DUTY_NEXT: first = 0x48; top = 0; break;
+    case A_DUTY_VALUE: first = 0x00; top = 127; break;
+    case A_INVERSION_NEXT: first = 0x4C; top = 0; break;
+    case A_INVERSION_VALUE: first = 0x00; top = 31; break; /* @write_inversion */
+    /* Order 13: "E4 returns to frame inversion" */
+    case A_FRAME_INVERSION: first = 0xE4; top = 0; break;
+    default: return 6;
+    }
+    if (value > top)
+        return 6;
+    *byte = (uint8_t)(first + value);
+    return 0;
+}
+
+/* Order 13: "the inversion byte mod 32 sets 0 for frame inversion, or its value plus 2 lines" */
+static uint8_t inversion_lines(uint8_t value)
+{
+    if (value == 0u)
+        return 0;
+    return (uint8_t)(value + 2u); /* @added_lines */
+}
+
+/* What an accepted instruction of the new set does to the registers. Decision: a first byte sets what is awaited and nothing
+   else. Settled: page, column, memory and the mark of order 2 stay. */
+static void carry_out_added(struct model_registers *r, uint8_t number, uint8_t value)
+{
+    switch (number) {
+    case A_COM0_NEXT:
+        r->awaited = AWAITS_COM0;
+        break;
+    /* Order 13: "the second byte mod 128 sets initial COM0 for 0 to 79 and duty for 17 to 81, other values doing nothing".
+       Settled: the byte is spent in every case. */
+    case A_COM0_VALUE:
+        if (value <= 79u) /* @com0_taken */
+            r->com0 = value;
+        r->awaited = AWAITS_NOTHING; /* @added_com0_spent */
+        break;
+    case A_DUTY_NEXT:
+        r->awaited = AWAITS_DUTY;
+        break;
+    case A_DUTY_VALUE:
+        if (value >= 17u && value <= 81u) /* @duty_taken */
+            r->duty = value;
+        r->awaited = AWAITS_NOTHING; /* @added_duty_spent */
+        break;
+    case A_INVERSION_NEXT:
+        r->awaited = AWAITS_INVERSION;
+        break;
+    case A_INVERSION_VALUE:
+        r->inversion = inversion_lines(value);
+        r->awaited = AWAITS_NOTHING;
+        break;
+    /* Order 13: "E4 returns to frame inversion" */
+    default: /* A_FRAME_INVERSION */
+        r->inversion = 0; /* @added_e4 */
         break;
     }
 }
@@ -488,13 +672,15 @@ static uint8_t status(const struct model_registers *r)
    Decision: instructions are meant and not bytes, so a byte that is awaited is a second byte, whatever its value, and
    doesn't count. An instruction of the list counts whether or not it changes anything else: E0 while modify-read is on,
    EE while it is off, a page or column that is there already; so do data cycles where there is no cell. Pin high and
-   every other instruction don't count. */
+   every other instruction don't count. Settled: no instruction of order 13's new set counts. */
 static uint8_t counts(const struct model_registers *r, uint8_t kind, uint8_t value)
 {
     uint8_t number, field;
 
     switch (kind) {
     case 0:
+        if (r->set == SET_NEW)
+            return COUNTS_NOT; /* @mark_added */
         /* "refused cycles don't count" */
         if (model_read_instruction(r->awaited, value, &number, &field) != 0u) /* @mark_awaited */
             return COUNTS_NOT;
@@ -522,14 +708,35 @@ static uint8_t counts(const struct model_registers *r, uint8_t kind, uint8_t val
     }
 }
 
+/* One instruction byte, read and carried out in the set in force; answers 0 or the refusal, which changes nothing.
+   4: "instruction byte unassigned and nothing awaited". Order 13: "with nothing awaited, any other instruction byte in the
+   new set is refused with 4". Settled: in the old set E4 is refused with 4 and 44-4F are start lines, as before. */
+static uint8_t instruct(struct model_registers *r, uint8_t byte)
+{
+    uint8_t refusal, number, field;
+
+    if (r->set == SET_NEW) { /* @set_in_force */
+        refusal = model_read_added(r->awaited, byte, &number, &field); /* @added_awaited */
+        if (refusal == 0u)
+            carry_out_added(r, number, field);
+    } else {
+        refusal = model_read_instruction(r->awaited, byte, &number, &field);
+        if (refusal == 0u)
+            carry_out(r, number, field);
+    }
+    return refusal;
+}
+
 /* "Kinds: 0 instruction, 1 data write, 2 status read, 3 data read, 4 reset pin low, 5 reset pin high."
    "The order is 1, 2, 6, 3, 4, 5; [...] A single cycle given as kind and value can meet 9 too, after 2." So: 1, 2, 9, 3,
    4.
-   "A refusal returns its number only; registers and buffers stay." */
+   "A refusal returns its number only; registers and buffers stay."
+   Order 13 speaks of instruction bytes and pin low alone. Settled: data writes, data reads, status reads and pin cycles are
+   as in 01 in either set. */
 uint8_t model_cycle(struct model_registers *r, uint8_t *memory, size_t memory_len, uint8_t kind, uint8_t value,
                     uint8_t *read_flag, uint8_t *byte, uint8_t *fresh)
 {
-    uint8_t refusal, number, field, counted;
+    uint8_t refusal, counted;
 
     /* 1: "a picture, memory or frame buffer is not 1,188 bytes" (whatever the kind). Order 1: "number 1 uses 900 here" */
     if (memory_len != PICTURE)
@@ -549,10 +756,9 @@ uint8_t model_cycle(struct model_registers *r, uint8_t *memory, size_t memory_le
     switch (kind) {
     case 0:
         /* 4: "instruction byte unassigned and nothing awaited" */
-        refusal = model_read_instruction(r->awaited, value, &number, &field);
+        refusal = instruct(r, value);
         if (refusal != 0u)
             return refusal; /* @mark_four */
-        carry_out(r, number, field);
         break;
     case 1:
         /* "Data write: the byte enters the holder and is stored if page ≤ 8 and column ≤ 131, otherwise nothing is
@@ -588,7 +794,7 @@ uint8_t model_cycle(struct model_registers *r, uint8_t *memory, size_t memory_le
             advance(r);
         break;
     case 4:
-        pin_goes_low(r);
+        pin_goes_low(r); /* @pin_low */
         break;
     default: /* 5 */
         pin_goes_high(r);
@@ -604,7 +810,8 @@ uint8_t model_cycle(struct model_registers *r, uint8_t *memory, size_t memory_le
 
 /* "Power state: display off with entire display on is sleep if the indicator is off and standby if on (000); all else is
    normal."
-   Decision: it is asked of a whole register struct, so any register outside its range is 2. */
+   Decision: it is asked of a whole register struct, so any register outside its range is 2. Settled: those of order 13
+   too. The set plays no other part. */
 uint8_t model_power_state(const struct model_registers *r, uint8_t *state)
 {
     if (!in_range(r))
@@ -632,7 +839,9 @@ static unsigned dot(const struct model_registers *r, unsigned bit)
 }
 
 /* "A frame has a picture's layout, with segments for columns and rows for lines; rows 0..63 are the commons and strip 8
-   bit 0 the icon row." Order 1: "rows are 0..53". */
+   bit 0 the icon row." Order 1: "rows are 0..53".
+   Order 13: "Its own frame isn't wanted, and a frame call follows 01 in either set". Decision: so initial COM0, duty and
+   inversion change no dot. */
 uint8_t model_frame(const struct model_registers *r, const uint8_t *memory, size_t memory_len, uint8_t *frame, size_t frame_len)
 {
     unsigned strip, segment, column, b, row, line, bit, lit, byte;
@@ -659,7 +868,7 @@ uint8_t model_frame(const struct model_registers *r, const uint8_t *memory, size
                     /* "Row k shows line (start + k) mod 64 if SHL is 0, (start + 63 − k) mod 64 if 1." Order 1: "row k
                        showing line (start + k) mod 64, or (start + 53 − k) mod 64 with SHL 1". */
                     if (r->shl == 0u)
-                        line = (r->start_line + row) % 64u;
+                        line = (r->start_line + row) % 64u; /* @frame_start */
                     else
                         line = (r->start_line + ROWS - 1u - row) % 64u; /* @frame_shl */
                     /* "Bit b of a byte on page p (0 to 7) is line 8p + b." */

@@ -42,7 +42,7 @@ static size_t room_near(size_t need)
 static void fill(size_t room) { for (size_t i = 0; i < room + SPARE && i < MOST; i++) ours[i] = theirs[i] = (uint8_t)rnd(); }
 static int alike(size_t room) { size_t n = room + SPARE; return !memcmp(ours, theirs, n < MOST ? n : MOST); }
 
-/* ---- cycles: mostly good, of any kind; now and then one that is none, at any place */
+/* ---- cycles: mostly good, of any kind and of either set; now and then one that is none, at any place */
 
 static uint8_t cycles[2 * 16002];
 
@@ -54,16 +54,28 @@ static void wrong_cycle(size_t i)
     default: cycles[2 * i] = (uint8_t)rnd(), cycles[2 * i + 1] = (uint8_t)rnd(); break;
     }
 }
-static size_t some_cycles(void)
+/* in the new set 44-4F open an instruction, E4 is one, and the others are second bytes about a bound */
+static uint8_t some_value(void)
 {
     static const uint8_t often[8] = { 0x00, 0xB0, 0x10, 0xE0, 0x81, 0xAF, 0x30, 0xA1 };
+    static const uint8_t bounds[8] = { 0xE4, 0x4F, 0x50, 0x11, 0x51, 0x00, 0x01, 0x1F };
+    switch (below(8)) {
+    case 0: case 1: return often[below(8)];
+    case 2: case 3: return (uint8_t)(0x44 + below(12));
+    case 4: return bounds[below(8)];
+    default: return (uint8_t)rnd();
+    }
+}
+static size_t some_cycles(void)
+{
     size_t n = below(8) == 0 ? below(3) : below(120);
+    uint32_t seldom = below(2) ? 4 : 60;
     if (below(60) == 0) n = 15999 + below(3);
     for (size_t i = 0; i < n; i++) {
         uint8_t kind = (uint8_t)below(6);
-        if (kind > 3 && below(4)) kind = (uint8_t)below(4); /* the pin seldom, or nothing is ever read */
+        if (kind > 3 && below(seldom)) kind = (uint8_t)below(4); /* the pin seldom, or nothing is ever read, and no number stays */
         cycles[2 * i] = kind;
-        cycles[2 * i + 1] = kind > 1 ? 0 : below(3) ? (uint8_t)rnd() : often[below(8)];
+        cycles[2 * i + 1] = kind > 1 ? 0 : some_value();
     }
     if (n && below(5) == 0) wrong_cycle(below((uint32_t)n));
     return n;
@@ -135,7 +147,7 @@ static void texts(void)
     same("read_text", r1 == r2 && a == b && c == d && alike(room));
 }
 
-static uint8_t pictures[4 * PICTURE], file[RECORDER_JOB_MOST + 64];
+static uint8_t pictures[4 * PICTURE], file[RECORDER_JOB_MOST + PICTURE + 64];
 
 static void some_pictures(void)
 {
@@ -147,24 +159,28 @@ static void jobs(void)
     static const size_t counts[8] = { 0, 1, 2, 3, 4, (size_t)-1, (size_t)1 << 62, ((size_t)1 << 62) + 1 };
     size_t odd = below(2), n = some_cycles(), count = counts[below(3) ? below(3) : below(8)], a = 77, b = 77;
     size_t length = count < 5 ? PICTURE * count : PICTURE * (count % 2);
+    uint8_t set = (uint8_t)(below(8) ? below(2) : below(2) ? 2 : 255);
     some_pictures();
     cycles[2 * n] = (uint8_t)rnd();
     if (below(8) == 0) length = length && below(2) ? length - 1 : below(sizeof pictures);
     size_t room = room_near(8 + 2 * n + (length > 2 * PICTURE ? 2 * PICTURE : length));
     fill(room);
-    uint8_t r1 = recorder_write_job(cycles, 2 * n + odd, count, pictures, length, ours, room, &a);
-    uint8_t r2 = model_write_job(cycles, 2 * n + odd, count, pictures, length, theirs, room, &b);
+    uint8_t r1 = recorder_write_job(set, cycles, 2 * n + odd, count, pictures, length, ours, room, &a);
+    uint8_t r2 = model_write_job(set, cycles, 2 * n + odd, count, pictures, length, theirs, room, &b);
     numbers[r2]++;
     same("write_job", r1 == r2 && a == b && alike(room));
 }
 
-/* a job file, at times damaged in its header, its cycles or its length; one of 16,001 cycles is put together by hand */
+/* a job file of either set, at times damaged in its header, its cycles or its length; one of 16,001 cycles is put together by hand. Only
+   the first five picture count fields are good. There are as many pictures as a field's low byte says, for 255 one */
 static size_t some_file(void)
 {
-    size_t n = some_cycles(), p = below(3), size = 8 + 2 * n + PICTURE * p;
+    static const size_t fields[10] = { 0, 1, 2, 256, 257, 3, 255, 258, 512, 513 };
+    size_t n = some_cycles(), field = fields[below(8) ? below(5) : below(10)];
+    if (n > 16000) field = field < 256 ? 0 : 256;
+    size_t p = field == 255 ? 1 : field % 256, size = 8 + 2 * n + PICTURE * p;
     some_pictures();
-    if (n > 16000) p = 0, size = 8 + 2 * n;
-    size_t header[4] = { n, 8, p, 8 + 2 * n };
+    size_t header[4] = { n, 8, field, 8 + 2 * n };
     for (int i = 0; i < 4; i++) file[2 * i] = (uint8_t)header[i], file[2 * i + 1] = (uint8_t)(header[i] >> 8);
     memcpy(file + 8, cycles, 2 * n);
     memcpy(file + 8 + 2 * n, pictures, PICTURE * p);
@@ -180,9 +196,10 @@ static size_t some_file(void)
 static void files(void)
 {
     size_t size = some_file(), a = 77, b = 77, c = 78, d = 78, need = 0;
-    uint8_t r1 = recorder_read_header(file, size, &a, &c), r2 = model_read_header(file, size, &b, &d);
+    uint8_t s1 = 79, s2 = 79;
+    uint8_t r1 = recorder_read_header(file, size, &a, &c, &s1), r2 = model_read_header(file, size, &b, &d, &s2);
     numbers[r2]++;
-    same("read_header", r1 == r2 && a == b && c == d);
+    same("read_header", r1 == r2 && a == b && c == d && s1 == s2);
 
     model_play(file, size, ours, RECORDER_PLAYED_MOST, &need);
     size_t room = room_near(need);

@@ -1,7 +1,7 @@
-/* The recording calls of recording.h, written from document 01 and orders 2 and 11 alone. The player's chip is the KS0713
-   of model.c, seen through model.h only.
-   Sentences in quotes are document 01's own, and after "Order 2:" and "Order 11:" those orders', which hold in place of
-   01's where they speak; "Settled" marks a reading settled beforehand and "Decision" a point settled here.
+/* The recording calls of recording.h, written from document 01 and orders 2, 11 and 13 alone. The player's chip is the
+   KS0713 of model.c, seen through model.h only.
+   Sentences in quotes are document 01's own, and after "Order 2:", "Order 11:" and "Order 13:" those orders', which hold in
+   place of 01's where they speak; "Settled" marks a reading settled beforehand and "Decision" a point settled here.
    Words in the form @name are markers for recording-faults.txt and mean nothing else.
 
    Nothing here checks for null pointers, and lent buffers are taken not to overlap one another. */
@@ -15,6 +15,12 @@
 /* "N ≤ 16,000, P ≤ 2" */
 #define CYCLES_MOST 16000u
 #define PICTURES_MOST 2u
+/* Order 13: "A job whose picture count field is 256 or 257 powers up in the new set with 0 or 1 pictures". The sets are
+   those of model.h, and the field is 256 times the set plus the number of pictures. */
+#define SET_OLD 0u
+#define SET_NEW 1u
+#define SET_STEP 256u
+#define NEW_PICTURES_MOST 1u
 
 /* ---------------------------------------------------------------- what is put to an output */
 
@@ -108,9 +114,10 @@ static int any_refused_with_nine(const uint8_t *cycles, size_t n)
 
 /* Order 11: "We need a writer of job files from cycles and pictures, exactly inverse to the reader on every file the reader
    accepts." Order 11: "Refusals: 1 first; [...] 6 for more than 16,000 cycles, more than two pictures or a cycle that number
-   9 would refuse; then 5." */
-uint8_t model_write_job(const uint8_t *cycles, size_t cycles_len, size_t count, const uint8_t *pictures, size_t pictures_len,
-                        uint8_t *out, size_t out_len, size_t *length)
+   9 would refuse; then 5."
+   Order 13: "order 11's writer writes these too". */
+uint8_t model_write_job(uint8_t set, const uint8_t *cycles, size_t cycles_len, size_t count, const uint8_t *pictures,
+                        size_t pictures_len, uint8_t *out, size_t out_len, size_t *length)
 {
     struct output o;
     size_t n, total, i;
@@ -124,6 +131,8 @@ uint8_t model_write_job(const uint8_t *cycles, size_t cycles_len, size_t count, 
     one = pictures_len % PICTURE != 0u || pictures_len / PICTURE != count; /* @job_whole */
     /* Order 11: "6 for more than 16,000 cycles, more than two pictures or a cycle that number 9 would refuse" */
     six = n > CYCLES_MOST || count > PICTURES_MOST || any_refused_with_nine(cycles, n); /* @job_fields */
+    /* Settled: more than one picture in the new set is 6, and so is a set above 1. */
+    six = six || set > SET_NEW || (set == SET_NEW && count > NEW_PICTURES_MOST); /* @job_set */
     /* "total 8 + 2N + 1,188·P". It means nothing while there are more pictures than two, and is then not used. */
     total = HEADER + 2u * n + PICTURE * count;
 
@@ -137,10 +146,11 @@ uint8_t model_write_job(const uint8_t *cycles, size_t cycles_len, size_t count, 
 
     o = lent(out, out_len);
     /* "Header: four 16-bit numbers, low byte first: cycle count N, cycle offset, picture count P, picture offset."
-       "offsets 8 and 8 + 2N". Decision: the picture offset is 8 + 2N without pictures too, as the reader asks. */
+       "offsets 8 and 8 + 2N". Decision: the picture offset is 8 + 2N without pictures too, as the reader asks.
+       Order 13: "picture count field is 256 or 257". Settled: the set's place in the file is this field. */
     put_number(&o, n);
     put_number(&o, HEADER);
-    put_number(&o, count);
+    put_number(&o, SET_STEP * set + count); /* @job_count */
     put_number(&o, HEADER + 2u * n); /* @job_offset */
     /* "Cycles are two bytes, kind and value; pictures follow." */
     for (i = 0; i < 2u * n; i++)
@@ -315,9 +325,9 @@ static size_t number_at(const uint8_t *file, size_t at)
 }
 
 /* "The order is 1, 2, 6, 3, 4, 5; for jobs 7, 8, 9." */
-uint8_t model_read_header(const uint8_t *file, size_t file_len, size_t *cycles, size_t *pictures)
+uint8_t model_read_header(const uint8_t *file, size_t file_len, size_t *cycles, size_t *pictures, uint8_t *set)
 {
-    size_t n, p;
+    size_t n, p, s;
 
     /* 7: "job shorter than 8 bytes" */
     if (file_len < HEADER) /* @header_seven */
@@ -326,11 +336,18 @@ uint8_t model_read_header(const uint8_t *file, size_t file_len, size_t *cycles, 
     /* "Header: four 16-bit numbers, low byte first: cycle count N, cycle offset, picture count P, picture offset."
        8: "N, P, an offset or the total is wrong" */
     n = number_at(file, 0u);
-    p = number_at(file, 4u);
+    /* Order 13: "A job whose picture count field is 256 or 257 powers up in the new set with 0 or 1 pictures". Settled: 0, 1
+       and 2 are the old set's as before, and every other field is 8. */
+    p = number_at(file, 4u) % SET_STEP;
+    s = number_at(file, 4u) / SET_STEP; /* @header_field */
     /* "N ≤ 16,000, P ≤ 2, offsets 8 and 8 + 2N, total 8 + 2N + 1,188·P." */
     if (n > CYCLES_MOST) /* @header_cycles */
         return 8;
     if (p > PICTURES_MOST)
+        return 8;
+    if (s > SET_NEW)
+        return 8;
+    if (s == SET_NEW && p > NEW_PICTURES_MOST) /* @header_pictures */
         return 8;
     if (number_at(file, 2u) != HEADER) /* @header_offset */
         return 8;
@@ -345,6 +362,7 @@ uint8_t model_read_header(const uint8_t *file, size_t file_len, size_t *cycles, 
 
     *cycles = n;
     *pictures = p;
+    *set = (uint8_t)s;
     return 0;
 }
 
@@ -363,12 +381,13 @@ static void put_play(struct output *o, const uint8_t *file, size_t file_len)
     static uint8_t memory[PICTURE];
     struct model_registers r;
     size_t cycles, pictures, pictures_at, update, i;
-    uint8_t refusal, kind, value, read_flag, byte, fresh;
+    uint8_t refusal, set, kind, value, read_flag, byte, fresh;
 
     /* "A refused file gives the one line `bad` and the number." */
     cycles = 0;
     pictures = 0;
-    refusal = model_read_header(file, file_len, &cycles, &pictures);
+    set = SET_OLD;
+    refusal = model_read_header(file, file_len, &cycles, &pictures, &set);
     if (refusal != 0u) {
         put_letters(o, "bad");
         put_field(o, refusal);
@@ -383,6 +402,9 @@ static void put_play(struct output *o, const uint8_t *file, size_t file_len)
     for (i = 0; i < PICTURE; i++)
         memory[i] = pictures >= 1u ? file[pictures_at + i] : 0u;
     model_power_up(&r);
+    /* Order 13: "powers up in the new set". Decision: this is power-up and then a switch, which can't be refused here as
+       nothing is awaited; to the old set it changes nothing. */
+    model_switch_set(&r, set); /* @play_set */
 
     for (i = 0; i < cycles; i++) {
         kind = file[HEADER + 2u * i];
@@ -432,9 +454,15 @@ static void put_play(struct output *o, const uint8_t *file, size_t file_len)
     put_field(o, r.on);
     put_field(o, r.modify_read); /* @end_modify */
     put_field(o, r.contrast);
+    /* Order 13: "its end line gains the three numbers in that order". Settled: initial COM0, duty and inversion, behind the
+       contrast. Decision: inversion as a number of lines, 0 for frame inversion, as the state holds it. */
+    if (set == SET_NEW) { /* @end_set */
+        put_field(o, r.com0); put_field(o, r.duty); put_field(o, r.inversion); /* @end_three */
+    }
     put(o, '\n');
 
-    /* "then, if P = 2, `update` and its length from the memory now". Decision: the line is there for a length of 0 too. */
+    /* "then, if P = 2, `update` and its length from the memory now". Decision: the line is there for a length of 0 too.
+       Settled: never in a job of the new set, which has no picture 2. */
     if (pictures == 2u) {
         update = 0;
         model_update_length(memory, PICTURE, file + pictures_at + PICTURE, PICTURE, &update); /* @play_update */

@@ -3,13 +3,12 @@
 -- Assumes nothing.
 use Prim.Native.Nat.{ℕ}
 use mathlib.Core.Path.{_≡_}
-use mathlib.Core.Bool.{Bool, true, false}
+use mathlib.Core.Bool.{true, false}
 use mathlib.Core.List.{List, [], _∷_, _++_}
 use Rattle.paper.specs.Sheet.{sheet0713}
 use Rattle.paper.specs.Told.{given, refused}
 use Rattle.instructions.specs.Added.{readAdded, writeAdded, addedAgain}
 use Rattle.instructions.specs.declared.added.Added.the-variants.{Com0Value, DutyNext, InversionValue}
-use Rattle.instructions.specs.declared.added.CommandSet.{CommandSet}
 use Rattle.instructions.specs.declared.added.CommandSet.the-variants.{Old, New}
 use Rattle.instructions.specs.declared.instruction.Awaited.{Awaited}
 use Rattle.instructions.specs.declared.instruction.Awaited.the-variants as awaited

@@ -62,9 +62,11 @@ pub old-job : (file : List ℕ) → headerOf file ≡ given (jobOf file) → wor
     → (jobOf file .set ≡ Old) × (textOf file ≡ textBefore file (jobOf file) (poweredUp sheet0713 (startMemory file (jobOf file))) 0 (jobOf file .cycles))
 unfolding textOf textBy
 old-job file e h =
-    let o : jobOf file .set ≡ Old = rw (lt-ltb (wordAt file 4) 256 (omega arith)) refl in
-    (o, rw e (ap (λ x. textFrom file (jobOf file) (poweredUpIn sheet0713 x (startMemory file (jobOf file))) 0 (jobOf file .cycles)) o
-    ∙ old-text file (jobOf file) (poweredUp sheet0713 (startMemory file (jobOf file))) 0 (jobOf file .cycles) refl))
+    let o : jobOf file .set ≡ Old = rw (lt-ltb (wordAt file 4) 256 (omega arith)) refl in (
+      o,
+      rw e (ap (λ x. textFrom file (jobOf file) (poweredUpIn sheet0713 x (startMemory file (jobOf file))) 0 (jobOf file .cycles)) o
+          ∙ old-text file (jobOf file) (poweredUp sheet0713 (startMemory file (jobOf file))) 0 (jobOf file .cycles) refl),
+    )
 
 -- ---- a job of the new set
 

@@ -1,5 +1,4 @@
 // The new command set: its instructions by number, read and written, and the switch between the sets on the KS0713.
-ghost use mathlib.Core.Path.{_≡_};
 ghost use Rattle.paper.specs.Sheet.{sheet0713};
 ghost use Rattle.instructions.specs.Added.{IsWrittenAdded};
 ghost use Rattle.face.specs.Bytes.{WrittenBy};

@@ -62,6 +62,7 @@ ks0759 = record {
   duty-out = refl;
   switch-old = refl;
   switch-same = refl;
+  switch-out = refl;
   switch-new = refl;
   played = refl;
   played-e4 = refl;

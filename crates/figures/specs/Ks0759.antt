@@ -13,7 +13,7 @@ use Rattle.instructions.specs.declared.added.CommandSet.the-variants.{Old, New}
 use Rattle.instructions.specs.declared.instruction.Awaited.{Awaited}
 use Rattle.instructions.specs.declared.instruction.Awaited.the-variants as awaited
 use Rattle.registers.specs.Beside.{besides, outsideBeside}
-use Rattle.registers.specs.Registers.{start}
+use Rattle.registers.specs.Registers.{start, withContrast}
 use Rattle.registers.specs.Switch.{switched}
 use Rattle.registers.specs.declared.Beside.{Beside}
 use Rattle.controller.specs.Run.{BusCycle}
@@ -78,7 +78,7 @@ pub record Ks0759 : Type 0 where
   pub write-com0 : writeAdded (Com0Value 127) ≡ given 127
   pub write-inversion : writeAdded (InversionValue 32) ≡ refused 6
   pub again-4e : addedAgain (readAdded awaited.Nothing 0x4e) ≡ given 0x4c
-  -- every other instruction byte is refused with 4: a page, E3, 81, 40, 50
+  -- every other instruction byte is refused with 4: a page, E3, 81, 43, 50
   pub page-new : number sheet0713 (new []) (0, 0xb0) ≡ 4
   pub nop-new : number sheet0713 (new []) (0, 0xe3) ≡ 4
   pub contrast-new : number sheet0713 (new []) (0, 0x81) ≡ 4
@@ -101,9 +101,10 @@ pub record Ks0759 : Type 0 where
   pub the-most : outsideBeside awaited.Inversion (besides New 79 81 33) ≡ false
   pub contrast-out : outsideBeside awaited.Contrast (besides New 0 81 0) ≡ true
   pub duty-out : outsideBeside awaited.Duty (besides Old 0 81 0) ≡ true
-  -- a switch: 13 after 81, and after 44 in the new set; 2 comes before it
+  -- a switch: 13 after 81, and after 44 in the new set; with contrast 64 2 comes before it
   pub switch-old : switched sheet0713 (after (instruction 0x81 ∷ []) .registers) New ≡ refused 13
   pub switch-same : switched sheet0713 (new (instruction 0x44 ∷ []) .registers) New ≡ refused 13
+  pub switch-out : switched sheet0713 (withContrast (after (instruction 0x81 ∷ []) .registers) 64) New ≡ refused 2
   pub switch-new : switched sheet0713 (after [] .registers) New ≡ given (new [] .registers)
   -- the job of the new set, played and written
   pub played : textOf new-job ≡ ascii "end 0 0 0 0 0 0 0 0 0 32 79 17 6\n"

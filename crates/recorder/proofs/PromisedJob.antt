@@ -38,7 +38,8 @@ module _ (set : CommandSet) (cycles : List ℕ) (p : ℕ) (pictures out : List �
   abbrev needed : ℕ
   needed = 8 + 2 * length (cyclesOf cycles) + length pictures
 
-  -- more than 16,000 cycles, more pictures than the set has, two and in the new one one, or a cycle that number 9 would refuse; and none of these
+  -- more than 16,000 cycles, more pictures than the set has (two, in the new one one), or a cycle that number 9 would refuse; and none
+  -- of these
   abbrev pub OutsideJob : Type 0
   OutsideJob = (16000 < length (cyclesOf cycles)) ⊎ ((mostPictures set < p) ⊎ WrongAmong (cyclesOf cycles))
 

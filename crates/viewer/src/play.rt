@@ -19,7 +19,8 @@ fn room() -> [u8; 16000]
     [0; 16000]
 }
 
-// The cycles of a list from power-up in a command set: the registers after them. A memory that fits and room for every answer are never refused.
+// The cycles of a list from power-up in a command set: the registers after them. A memory that fits and room for every answer are never
+// refused.
 fn from_power_up(set: CommandSet, memory: &mut [u8], cycles: &[u8]) -> Registers
     requires { ⌜ (length (now memory) ≡ 1188) × (length (now cycles) ≤ 32000) ⌝ }
     ensures { λ r. ⌜ FromPowerUp set (now (cycles .entry)) (now (memory .entry)) r (now (memory .exit)) ⌝ }

@@ -145,38 +145,38 @@ added-number : (r : AddedReading) (n : ℕ) → n ≢ 0 → Exactly (r ≡ added
 added-number (added.ReadAs i) n h = (λ e. ap (λ r. toldAdded r .number) e, λ e. absurd (h (sym e)))
 added-number (added.Unread m) n h = (λ e. ap (λ r. toldAdded r .number) e, λ e. ap added.Unread e)
 
--- which number it is
-module _ (other nothing known : Bool) where
-  is-2 : Exactly (numberBy other nothing known ≡ outOfRange) (other ≡ true)
-  is-2 = here other outOfRange _ (nowhere (nothing && not known) unassigned 0 outOfRange (λ e. omega arith) (λ e. omega arith))
+-- whatever holds exactly at such a number, 2 or 4, holds exactly when that number is given
+module _ {Refused : Type 0} {n : ℕ} (other nothing known : Bool) (is : n ≡ numberBy other nothing known) where
+  at-2 : Exactly Refused (n ≡ outOfRange) → Exactly Refused (other ≡ true)
+  at-2 f =
+      then f (then (same-number is) (here other outOfRange _ (nowhere (nothing && not known) unassigned 0 outOfRange (λ e. omega arith) (λ e. omega arith))))
 
-  is-4 : Exactly (numberBy other nothing known ≡ unassigned) ((other ≡ false) × ((nothing && not known) ≡ true))
-  is-4 =
-      then (past other outOfRange _ unassigned (λ e. omega arith))
-      (both (λ e. e, λ e. e) (here (nothing && not known) unassigned 0 (λ e. omega arith)))
+  at-4 : Exactly Refused (n ≡ unassigned) → Exactly Refused ((other ≡ false) × ((nothing && not known) ≡ true))
+  at-4 f =
+      then f (then (same-number is)
+      (then (past other outOfRange _ unassigned (λ e. omega arith)) (both (λ e. e, λ e. e) (here (nothing && not known) unassigned 0 (λ e. omega arith)))))
 
 -- the reader's, and the new set's
 module _ (a : Awaited) (b : ℕ) (h : b < 256) where
-  pub unread-2 : {k : Sheet} {r : Reading} → IsRead k a b r → Exactly (r ≡ Unread outOfRange) (ofOther Old a ≡ true)
-  unread-2 {k} {r} f =
-      then (reading-number r outOfRange (λ e. omega arith))
-      (then (same-number (ap (λ t. t .number) (f .tells) ∙ number-read b h k a .0)) (is-2 (ofOther Old a) (nothingAwaited a) (assigned b)))
+  module _ {k : Sheet} {r : Reading} (f : IsRead k a b r) where
+    read-is : toldReading r .number ≡ numberBy (ofOther Old a) (nothingAwaited a) (assigned b)
+    read-is = ap (λ t. t .number) (f .tells) ∙ number-read b h k a .0
 
-  pub unread-4 : {k : Sheet} {r : Reading} → IsRead k a b r → Exactly (r ≡ Unread unassigned) ((ofOther Old a ≡ false) × ((nothingAwaited a && not (assigned b)) ≡ true))
-  unread-4 {k} {r} f =
-      then (reading-number r unassigned (λ e. omega arith))
-      (then (same-number (ap (λ t. t .number) (f .tells) ∙ number-read b h k a .0)) (is-4 (ofOther Old a) (nothingAwaited a) (assigned b)))
+    pub unread-2 : Exactly (r ≡ Unread outOfRange) (ofOther Old a ≡ true)
+    unread-2 = at-2 (ofOther Old a) (nothingAwaited a) (assigned b) read-is (reading-number r outOfRange (λ e. omega arith))
 
-  pub unread-added-2 : {r : AddedReading} → IsReadAdded a b r → Exactly (r ≡ added.Unread outOfRange) (ofOther New a ≡ true)
-  unread-added-2 {r} f =
-      then (added-number r outOfRange (λ e. omega arith))
-      (then (same-number (ap (λ t. t .number) (f .tells) ∙ number-added b h a .0)) (is-2 (ofOther New a) (nothingAwaited a) (assignedAdded b)))
+    pub unread-4 : Exactly (r ≡ Unread unassigned) ((ofOther Old a ≡ false) × ((nothingAwaited a && not (assigned b)) ≡ true))
+    unread-4 = at-4 (ofOther Old a) (nothingAwaited a) (assigned b) read-is (reading-number r unassigned (λ e. omega arith))
 
-  pub unread-added-4 : {r : AddedReading} → IsReadAdded a b r
-      → Exactly (r ≡ added.Unread unassigned) ((ofOther New a ≡ false) × ((nothingAwaited a && not (assignedAdded b)) ≡ true))
-  unread-added-4 {r} f =
-      then (added-number r unassigned (λ e. omega arith))
-      (then (same-number (ap (λ t. t .number) (f .tells) ∙ number-added b h a .0)) (is-4 (ofOther New a) (nothingAwaited a) (assignedAdded b)))
+  module _ {r : AddedReading} (f : IsReadAdded a b r) where
+    added-is : toldAdded r .number ≡ numberBy (ofOther New a) (nothingAwaited a) (assignedAdded b)
+    added-is = ap (λ t. t .number) (f .tells) ∙ number-added b h a .0
+
+    pub unread-added-2 : Exactly (r ≡ added.Unread outOfRange) (ofOther New a ≡ true)
+    unread-added-2 = at-2 (ofOther New a) (nothingAwaited a) (assignedAdded b) added-is (added-number r outOfRange (λ e. omega arith))
+
+    pub unread-added-4 : Exactly (r ≡ added.Unread unassigned) ((ofOther New a ≡ false) × ((nothingAwaited a && not (assignedAdded b)) ≡ true))
+    unread-added-4 = at-4 (ofOther New a) (nothingAwaited a) (assignedAdded b) added-is (added-number r unassigned (λ e. omega arith))
 
 -- no number but 2 and 4
 pub unread-only : {k : Sheet} {a : Awaited} {b n : ℕ} → Sensible k → IsRead k a b (Unread n) → (n ≡ unassigned) ⊎ (n ≡ outOfRange)

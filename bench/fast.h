@@ -10,6 +10,7 @@
 #define model_first_difference fast_first_difference
 #define model_update_length fast_update_length
 #define model_update fast_update
+#define model_page_group fast_page_group
 #define model_switch_set fast_switch_set
 #define model_read_added fast_read_added
 #define model_write_added fast_write_added

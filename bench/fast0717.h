@@ -9,6 +9,7 @@
 #define model0717_first_difference fast0717_first_difference
 #define model0717_update_length fast0717_update_length
 #define model0717_update fast0717_update
+#define model0717_page_group fast0717_page_group
 #define model0717_switch_set fast0717_switch_set
 #define model0717_read_added fast0717_read_added
 #define model0717_write_added fast0717_write_added

@@ -67,6 +67,24 @@ static void pictures(void)
     row("redraw", "any", cost_of(REDRAW));
 }
 
+/* a page by itself: a setpoint's, the one before it, which is equal, and one of which every byte differs */
+static void groups(void)
+{
+    head("One page by itself");
+    draw_change(SETPOINT, desk.recorded, desk.wanted);
+    sides[KS0713][OURS].call[FIRST]();
+    desk.chosen = desk.page;
+    row("page group, any room", "a setpoint's page", cost_of(GROUP));
+    sides[KS0713][OURS].call[GROUP]();
+    desk.room = desk.count;
+    row("page group, exact room", "a setpoint's page", cost_of(GROUP));
+    desk.room = ROOM;
+    desk.chosen = desk.page - 1;
+    row("page group, any room", "an equal page", cost_of(GROUP));
+    draw_change(FULL, desk.recorded, desk.wanted);
+    row("page group, any room", "a full page", cost_of(GROUP));
+}
+
 static const struct { const char *name; uint8_t kind, value; } cycles[] = {
     { "instruction B3, page", 0, 0xb3 }, { "instruction 1C, column", 0, 0x1c }, { "instruction 40, start line", 0, 0x40 },
     { "instruction AF, display on", 0, 0xaf }, { "instruction E2, reset", 0, 0xe2 }, { "instruction E3, nothing", 0, 0xe3 },
@@ -165,6 +183,8 @@ static void second_chip(void)
     for (size_t i = 0; i < N0717; i++) desk.recorded[i] = desk.memory[i] = (uint8_t)(31 * i), desk.wanted[i] = (uint8_t)~desk.recorded[i];
     row("update length", "full", cost_of(LENGTH));
     row("update, any room", "full", cost_of(UPDATE));
+    desk.chosen = 3;
+    row("page group, any room", "a full page", cost_of(GROUP));
     row("redraw", "any", cost_of(REDRAW));
     memcpy(desk.wanted, desk.recorded, N0717);
     row("first difference", "none", cost_of(FIRST));
@@ -233,6 +253,7 @@ int main(int argc, char **argv)
     if (counting == MARKING) printf("mark %016lx\n", (unsigned long)mark);
     printf("\n## Instructions%s of each call\n", counting == STEPPING ? " and time" : "");
     pictures();
+    groups();
     lists();
     through_state();
     second_chip();

@@ -11,6 +11,7 @@ uint8_t fast_read_text(const uint8_t *, size_t, uint8_t *, size_t, size_t *, siz
 
 #define STREAMS(side, prefix, n) \
     static void side##_update(void) { prefix##_update(desk.recorded, n, desk.wanted, n, desk.out, desk.room, desk.kinds, desk.room, &desk.count); } \
+    static void side##_group(void) { prefix##_page_group(desk.recorded, n, desk.wanted, n, desk.chosen, desk.out, desk.room, desk.kinds, desk.room, &desk.count); } \
     static void side##_length(void) { prefix##_update_length(desk.recorded, n, desk.wanted, n, &desk.count); } \
     static void side##_first(void) { prefix##_first_difference(desk.recorded, n, desk.wanted, n, &desk.found, &desk.page, &desk.column); } \
     static void side##_redraw(void) { prefix##_redraw(desk.wanted, n, 33, desk.out, desk.room, desk.kinds, desk.room, &desk.count); } \
@@ -24,7 +25,7 @@ uint8_t fast_read_text(const uint8_t *, size_t, uint8_t *, size_t, size_t *, siz
     static void side##_frame(void) { prefix##_frame(registers, desk.memory, n, desk.frame, n); } \
     static void side##_power(void) { prefix##_power_state(registers, &desk.power); }
 
-#define CALLS_OF(side, list, ...) { side##_update, side##_length, side##_first, side##_redraw, side##_cycle, list, side##_frame, side##_read, side##_reads, side##_write, side##_power, side##_v0, __VA_ARGS__ }
+#define CALLS_OF(side, list, ...) { side##_update, side##_group, side##_length, side##_first, side##_redraw, side##_cycle, list, side##_frame, side##_read, side##_reads, side##_write, side##_power, side##_v0, __VA_ARGS__ }
 
 /* a list as text, the text read again, and the list as a job of the old set with two pictures */
 #define RECORDING(side, prefix) \

@@ -20,6 +20,7 @@ struct desk {
     uint8_t cycles[2 * MOST];            /* or a list of them, of which `laps` are played */
     uint8_t numbers[MOST], reads[MOST], bytes[MOST], fresh[MOST]; /* and their answers */
     size_t laps, room;                   /* and the room in a stream's outputs */
+    size_t chosen;                       /* the page of a group */
     uint8_t text[5 * MOST], list[2 * MOST], pictures[2 * N], job[8 + 2 * MOST + 2 * N]; /* the list as text, read again, and as a job */
     size_t length, line;                 /* of the text */
     uint8_t number, field, byte, read, mark, found, power;
@@ -28,7 +29,7 @@ struct desk {
 };
 extern struct desk desk;
 
-enum call { UPDATE, LENGTH, FIRST, REDRAW, CYCLE, LIST, FRAME, READ, READS, WRITE, POWER, V0, WRITE_TEXT, READ_TEXT, WRITE_JOB, CALLS };
+enum call { UPDATE, GROUP, LENGTH, FIRST, REDRAW, CYCLE, LIST, FRAME, READ, READS, WRITE, POWER, V0, WRITE_TEXT, READ_TEXT, WRITE_JOB, CALLS };
 
 /* a call that a chip does not have is null: the KS0717 plays no lists and records none */
 struct side { const char *name; void (*call[CALLS])(void); };

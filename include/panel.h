@@ -34,6 +34,7 @@ enum {
     PANEL_PICTURE = 1188,        /* bytes of a picture, the memory or a frame */
     PANEL_STATE = 32,            /* bytes of the state */
     PANEL_UPDATE_MOST = 1215,    /* no update is longer */
+    PANEL_GROUP_MOST = 135,      /* no page's group is longer */
     PANEL_REDRAW_LENGTH = 1219   /* every redraw is this long */
 };
 
@@ -218,6 +219,14 @@ uint8_t panel_update_length(const uint8_t *recorded, size_t recorded_length, con
  * are the old set's. PANEL_UPDATE_MOST bytes are always enough. Refuses with 1 (either picture), 5 (out or kinds). */
 uint8_t panel_update(const uint8_t *recorded, size_t recorded_length, const uint8_t *wanted, size_t wanted_length,
                      uint8_t *out, size_t out_length, uint8_t *kinds, size_t kinds_length, size_t *count);
+
+/* One page of that update by itself, so that a page can go ahead of the others: its group, which begins with its page byte, put out as
+ * the update is. A page that does not differ has none: *count becomes 0, and no output is needed. The groups of all pages that differ,
+ * each sent once in whatever order, leave what the update leaves, with as many bytes; until the last of them is out, the glass shows
+ * part of the old picture. PANEL_GROUP_MOST bytes are always enough. This is for panel_update's kind of update. Refuses with 1 (either
+ * picture), 6 (page above 8), 5 (out or kinds). */
+uint8_t panel_page_group(const uint8_t *recorded, size_t recorded_length, const uint8_t *wanted, size_t wanted_length, size_t page,
+                         uint8_t *out, size_t out_length, uint8_t *kinds, size_t kinds_length, size_t *count);
 
 /* The redraw that shows the wanted picture and sets the contrast, whatever the chip held before, put out as the update is; *count
  * becomes PANEL_REDRAW_LENGTH. Refuses with 1 (picture), 6 (contrast above 63), 5 (out or kinds). */

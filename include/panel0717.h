@@ -32,6 +32,7 @@ enum {
     PANEL0717_COLUMNS = 100,
     PANEL0717_PICTURE = 900,        /* bytes of a picture, the memory or a frame */
     PANEL0717_UPDATE_MOST = 927,    /* no update is longer */
+    PANEL0717_GROUP_MOST = 103,     /* no page's group is longer */
     PANEL0717_REDRAW_LENGTH = 931   /* every redraw is this long */
 };
 
@@ -79,6 +80,11 @@ uint8_t panel0717_update_length(const uint8_t *recorded, size_t recorded_length,
  * kinds). */
 uint8_t panel0717_update(const uint8_t *recorded, size_t recorded_length, const uint8_t *wanted, size_t wanted_length,
                          uint8_t *out, size_t out_length, uint8_t *kinds, size_t kinds_length, size_t *count);
+
+/* One page's group of the update, put out as panel_page_group does. PANEL0717_GROUP_MOST bytes are always enough. Refuses with 1 (either
+ * picture), 6 (page above 8), 5 (out or kinds). */
+uint8_t panel0717_page_group(const uint8_t *recorded, size_t recorded_length, const uint8_t *wanted, size_t wanted_length, size_t page,
+                             uint8_t *out, size_t out_length, uint8_t *kinds, size_t kinds_length, size_t *count);
 
 /* The redraw, put out as panel_redraw does; *count becomes PANEL0717_REDRAW_LENGTH. Refuses with 1 (picture), 6 (contrast above 63),
  * 5 (out or kinds). */

@@ -143,6 +143,21 @@ static void streams(void)
     same("first_difference", r1 == r2 && f1 == f2 && p1 == p2 && c1 == c2);
 }
 
+/* one page's group: any page, at times one that there is none of, with room about what the group needs */
+static void groups(void)
+{
+    static uint8_t a[ROOM], b[ROOM], o1[ROOM], o2[ROOM], k1[ROOM], k2[ROOM];
+    pictures(a, b);
+    size_t la = some_length(), lb = some_length(), n1 = 77, n2 = 77;
+    size_t page = below(12) ? below(9) : below(2) ? 9 + below(3) : (size_t)0 - 1 - below(300);
+    size_t need = MODEL(page_group)(a, la, b, lb, page, o2, ROOM, k2, ROOM, &n2) ? 0 : n2, lo = room_near(need), lk = room_near(need);
+    for (int i = 0; i < ROOM; i++) o1[i] = o2[i] = rnd(), k1[i] = k2[i] = rnd();
+    n2 = 77;
+    uint8_t r1 = PANEL(page_group)(a, la, b, lb, page, o1, lo, k1, lk, &n1), r2 = MODEL(page_group)(a, la, b, lb, page, o2, lo, k2, lk, &n2);
+    numbers[r2]++;
+    same("page_group", r1 == r2 && n1 == n2 && !memcmp(o1, o2, ROOM) && !memcmp(k1, k2, ROOM));
+}
+
 static void frames(void)
 {
     static uint8_t m[ROOM], f1[ROOM], f2[ROOM];
@@ -323,7 +338,7 @@ int COMPARE(long n, long c)
 {
     static const int must[8] = { 1, 2, 3, 4, 5, 6, 9, 13 };
     bytes();
-    for (long i = 0; i < n && differences < 5; i++) streams();
+    for (long i = 0; i < n && differences < 5; i++) streams(), groups();
     for (long i = 0; i < n / 4 && differences < 5; i++) frames(), switches();
 #ifndef KS0717
     for (long i = 0; i < n / 4 && differences < 5; i++) lists();

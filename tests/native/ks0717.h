@@ -11,6 +11,7 @@
 #define model_first_difference model0717_first_difference
 #define model_update_length model0717_update_length
 #define model_update model0717_update
+#define model_page_group model0717_page_group
 #define model_switch_set model0717_switch_set
 #define model_read_added model0717_read_added
 #define model_write_added model0717_write_added

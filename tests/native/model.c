@@ -1,9 +1,10 @@
-/* The panel model of model.h, written from document 01 and orders 2, 5 and 13 alone and, for the second chip, from order 1.
+/* The panel model of model.h, written from document 01 and orders 2, 5, 10 and 13 alone and, for the second chip, from
+   order 1.
    Compiled as it is, this file is the model of the KS0713; compiled with -include ks0717.h it is that of the KS0717, under
    the names and with the numbers given there. The chips differ in the numbers of the first block below and in nothing else.
    Sentences in quotes are document 01's own, and after "Order 1:" the order's, which hold for the KS0717 in place of
-   those of 01, and after "Order 2:", "Order 5:" and "Order 13:" those orders', which hold for both chips; "Decision" marks
-   a point settled by combining them and "Settled" a reading settled beforehand.
+   those of 01, and after "Order 2:", "Order 5:", "Order 10:" and "Order 13:" those orders', which hold for both chips;
+   "Decision" marks a point settled by combining them and "Settled" a reading settled beforehand.
    Words in the form @name are markers for faults.txt (here and in ks0717.h) and mean nothing else.
 
    Nothing here checks for null pointers, and lent buffers are taken not to overlap one another
@@ -1083,5 +1084,130 @@ uint8_t model_redraw(const uint8_t *R wanted, size_t wanted_len, uint8_t contras
         }
     }
     *count = sent;
+    return 0;
+}
+
+/* ---------------------------------------------------------------- page groups */
+
+/* Order 10: "Split 01's update into its page groups, each beginning with its page byte." The group of one page, which is the
+   part of 01's update that is for the page. It is not cut out of model_update: of each column by itself it is asked whether
+   it is sent and whether a stretch begins there. Only the place of a byte (cell) is shared with model_update.
+   Order 10: "This is for 01's kind of update only". */
+
+/* "writes through a gap of 1 or 2 equal columns and starts a new stretch at 3 or more". The longest gap written through. */
+#define LONGEST_THROUGH 2u /* @group_through */
+
+/* "Two pictures are the same when pages 0 to 7 agree byte for byte and page 8 agrees in bit 0." Whether the column's two
+   bytes stand in the way of that. */
+static int group_differs(const uint8_t *recorded, const uint8_t *wanted, size_t page, size_t column)
+{
+    unsigned bits = (unsigned)recorded[cell(page, column)] ^ (unsigned)wanted[cell(page, column)]; /* the unequal ones */
+
+    if (page == ICON_PAGE)
+        bits &= 1u; /* @group_bits */
+    return bits != 0u;
+}
+
+/* Whether the column's data byte is sent.
+   "begins and ends each page's work on differing columns, writes through a gap of 1 or 2 equal columns"; a gap is one "of
+   equal columns between two differing ones".
+   Decision: so a column is sent exactly if it differs, or is equal and lies in such a gap of at most 2. That is, some column
+   to its left and some column to its right differ, and between the two are at most 2 columns. (Should one of these differ
+   too, the gap is the shorter for it.) Equal columns before the first differing one or behind the last lie in no gap. */
+static int group_sends(const uint8_t *recorded, const uint8_t *wanted, size_t page, size_t column)
+{
+    size_t left, right; /* how many columns away; between the two are left + right - 1 columns */
+
+    if (group_differs(recorded, wanted, page, column))
+        return 1;
+    for (left = 1; left <= column && left <= LONGEST_THROUGH; left++) {
+        if (!group_differs(recorded, wanted, page, column - left))
+            continue;
+        for (right = 1; column + right < COLUMNS && left + right - 1u <= LONGEST_THROUGH; right++) {
+            if (group_differs(recorded, wanted, page, column + right))
+                return 1;
+        }
+    }
+    return 0;
+}
+
+/* Whether a stretch begins with the column: it is sent, and the one before it, if there is one, is not. */
+static int group_begins(const uint8_t *recorded, const uint8_t *wanted, size_t page, size_t column)
+{
+    if (!group_sends(recorded, wanted, page, column))
+        return 0;
+    return column == 0u || !group_sends(recorded, wanted, page, column - 1u);
+}
+
+/* A group under way: where its bytes go and how many there are so far. A byte past the room is counted and not written. */
+struct group {
+    uint8_t *out, *kinds;
+    size_t room, count;
+};
+
+/* "A stream's bytes go to one lent output and their kinds (0 or 1, as under Cycles) to a second." */
+static void group_byte(struct group *g, uint8_t kind, uint8_t byte)
+{
+    if (g->count < g->room) {
+        g->out[g->count] = byte;
+        g->kinds[g->count] = kind;
+    }
+    g->count++;
+}
+
+/* The page's group from first byte to last, as far as there is room; answers its whole length. */
+static size_t group_walk(const uint8_t *recorded, const uint8_t *wanted, size_t page, uint8_t *out, uint8_t *kinds, size_t room)
+{
+    struct group g = {out, kinds, room, 0};
+    size_t column;
+    uint8_t data;
+
+    for (column = 0; column < COLUMNS; column++) {
+        if (group_begins(recorded, wanted, page, column)) {
+            /* "A stretch is a page byte (B0 + page), two column bytes (10 + high part, then 00 + low part), then at least
+               one data byte"; "The page byte is left out exactly when the stretch before it in the same stream was on that
+               page." Order 10: "each beginning with its page byte". Decision: so the first stretch of a group has the page
+               byte, whatever is sent before the group, and the later ones, all on the same page, don't. */
+            if (g.count == 0u) /* @group_page_byte */
+                group_byte(&g, 0, (uint8_t)(0xB0u + page));
+            group_byte(&g, 0, (uint8_t)(0x10u + column / 16u)); /* @group_high */
+            group_byte(&g, 0, (uint8_t)(0x00u + column % 16u));
+        }
+        if (group_sends(recorded, wanted, page, column)) {
+            /* "Its data are the wanted bytes (mod 2 on page 8)." */
+            data = wanted[cell(page, column)];
+            if (page == ICON_PAGE) /* @group_data */
+                data = (uint8_t)(data % 2u);
+            group_byte(&g, 1, data);
+        }
+    }
+    return g.count;
+}
+
+/* Order 10: "Refusals: none new." Settled: a page above 8, as large as a size_t may be, is a value outside its field and so
+   6; the order is 1, 6, 5, and 5 is asked of this one group. A page that does not differ has no group: it answers 0 with
+   a count of 0 and leaves the outputs alone, and outputs of 0 bytes are long enough. */
+uint8_t model_page_group(const uint8_t *R recorded, size_t recorded_len, const uint8_t *R wanted, size_t wanted_len, size_t page,
+                         uint8_t *R out, size_t out_len, uint8_t *R kinds, size_t kinds_len, size_t *R count)
+{
+    size_t need;
+
+    /* 1: "a picture, memory or frame buffer is not 1,188 bytes". Order 1: "number 1 uses 900 here" */
+    if (recorded_len != PICTURE)
+        return 1;
+    if (wanted_len != PICTURE)
+        return 1; /* @group_wanted */
+    /* 6: "a value to write is outside its field" */
+    if (page > ICON_PAGE) /* @group_top */
+        return 6; /* @group_order */
+    /* 5: "either output shorter than the stream needs"
+       "A refusal returns its number only; registers and buffers stay." So the bytes are first counted, in no room. */
+    need = group_walk(recorded, wanted, page, out, kinds, 0); /* @group_need */
+    if (out_len < need || kinds_len < need) /* @group_room */
+        return 5;
+
+    /* "A longer output keeps its bytes past the stream." */
+    group_walk(recorded, wanted, page, out, kinds, need);
+    *count = need;
     return 0;
 }

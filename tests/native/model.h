@@ -1,4 +1,4 @@
-/* An independent model of the panel software, written from document 01 and orders 2, 5 and 13 alone and, for the second
+/* An independent model of the panel software, written from document 01 and orders 2, 5, 10 and 13 alone and, for the second
    chip, from order 1.
    Plain C, no library calls.
    Two chips, one source: the calls model_... are the KS0713's (model.c as it is), the calls model0717_... the KS0717's
@@ -32,7 +32,7 @@ struct model_registers {
    2 duty next (48-4B), 3 duty value, 4 inversion next (4C-4F), 5 inversion value, 6 frame inversion (E4). value: what the
    second byte is after mod, 0 where there is none. */
 
-/* The fourteen calls of a chip. */
+/* The fifteen calls of a chip. */
 #define MODEL_CALLS(chip) \
 void chip##_power_up(struct model_registers *r); \
 /* *read_flag is 1 and *byte the byte where the cycle is an accepted data or status read, else both are left alone. \
@@ -55,6 +55,10 @@ uint8_t chip##_update_length(const uint8_t *recorded, size_t recorded_len, const
                              size_t *count); \
 uint8_t chip##_update(const uint8_t *recorded, size_t recorded_len, const uint8_t *wanted, size_t wanted_len, \
                       uint8_t *out, size_t out_len, uint8_t *kinds, size_t kinds_len, size_t *count); \
+/* the part of the update that is for one page, with its page byte first. Refusals: 1, 6 (a page above 8), 5. A page that \
+   does not differ has no group: *count is 0 and the outputs, which may have length 0, are left alone */ \
+uint8_t chip##_page_group(const uint8_t *recorded, size_t recorded_len, const uint8_t *wanted, size_t wanted_len, size_t page, \
+                          uint8_t *out, size_t out_len, uint8_t *kinds, size_t kinds_len, size_t *count); \
 /* set: 0 old, 1 new. Refusals: 2 (also for a set above 1), 13 */ \
 uint8_t chip##_switch_set(struct model_registers *r, uint8_t set); \
 /* reader and writer of the new set: 2 (awaited above 5, or a byte of the old set awaited), 4; and 6 (another number than \

@@ -4,7 +4,6 @@ mod chip;
 mod glass_cases;
 mod ks0717;
 mod ks0759;
-mod print;
 mod recording;
 mod streams;
 

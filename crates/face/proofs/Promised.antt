@@ -37,21 +37,23 @@ use Rattle.glass.specs.Frame.{toldShown, refusal}
 use Rattle.glass.specs.Power.{toldPower}
 use Rattle.glass.specs.Voltage.{Fraction, v0Of, toldVoltage, v0Of0717, toldVoltage0717}
 use Rattle.glass.proofs.Promised.{power-one, voltage-one, voltage-0717-one, shown-one}
-use Rattle.streams.specs.Length.{updateLength}
+use Rattle.streams.specs.Picture.{differs}
+use Rattle.streams.specs.Length.{pageLength, updateLength}
 use Rattle.planner.specs.Pictures.{misfit}
 use Rattle.planner.specs.First.{toldFound}
 use Rattle.planner.specs.Count.{toldCount}
-use Rattle.planner.specs.Sent.{updateRefusal, redrawRefusal, IsUpdate, IsRedraw}
+use Rattle.planner.specs.Sent.{updateRefusal, redrawRefusal, IsUpdate}
+use Rattle.planner.specs.Group.{groupRefusal}
 use Rattle.planner.specs.declared.count.Count.{Count}
 use Rattle.planner.specs.declared.count.Count.the-variants as count
-use Rattle.planner.proofs.Exactly.{RightSize, ShortOutput, misfit-yes, misfit-no, wrong-size, right-size}
+use Rattle.planner.proofs.Exactly.{RightSize, ShortOutput, wrong-size, right-size}
 use Rattle.planner.proofs.Scanning.{first-given}
-use Rattle.planner.proofs.Promised.{first-one, first-1, length-one, update-one, update-1, update-5, update-only, redraw-one, redraw-1, redraw-6, redraw-5, redraw-only}
+use Rattle.planner.proofs.Promised.{first-one, first-1, length-one, update-one, update-1, update-5, update-only, group-one, group-0 as group-given, redraw-one, redraw-0 as redraw-given}
 use Rattle.state.specs.Packed.{flagByte, packed, unpacked, awaitedOf}
 use Rattle.state.specs.Unfit.{unfit, unfitNumber}
 use Rattle.face.specs.Chip.{PowerUpOut, CycleOut, FrameOut, PowerOut, VoltageOut, VoltageOut0717}
 use Rattle.face.specs.Bytes.{named, WrittenBy, ReadOut, WriteOut}
-use Rattle.face.specs.Pictures.{FirstOut, LengthOut, UpdateOut, RedrawOut}
+use Rattle.face.specs.Pictures.{FirstOut, LengthOut, UpdateOut, GroupOut, RedrawOut}
 use Rattle.state.proofs.Accepting.{unfit-some, Accepted, packed-accepted, accepted-left}
 
 -- ---- power-up
@@ -322,6 +324,21 @@ module _ (W : ℕ) (recorded wanted : List ℕ) where
         → Exactly (r ≡ 0) (RightSize W recorded wanted × Room (updateLength W recorded wanted) out kinds)
     update-0 {o} {k} f = then (same-number (f .answers .number)) (update-given (f .answer) o k (f .promised))
 
+module _ (W : ℕ) (recorded wanted : List ℕ) (page : ℕ) (out kinds : List ℕ) (bytes : ℕ) where
+  pub group-out-one : {o k o′ k′ : List ℕ} {a b r r′ : ℕ} → GroupOut W recorded wanted page out kinds bytes o k a r → GroupOut W recorded wanted page out kinds bytes o′ k′ b r′
+      → (o ≡ o′) × (k ≡ k′) × (a ≡ b) × (r ≡ r′)
+  group-out-one f g =
+      let p = group-one W recorded wanted page (f .promised) (g .promised) in
+      let q = answers-one (ap toldCount (p .0)) (f .answers) (g .answers) in
+      (p .1, p .2, q .0, q .1)
+
+  pub group-number : {o k : List ℕ} {a r : ℕ} → GroupOut W recorded wanted page out kinds bytes o k a r → r ≡ groupRefusal W recorded wanted page out kinds
+  group-number f = f .answers .number ∙ ap (λ o. o .number) (f .promised .tells) ∙ number-number (groupRefusal W recorded wanted page out kinds) _
+
+  pub group-0 : {o k : List ℕ} {a r : ℕ} → GroupOut W recorded wanted page out kinds bytes o k a r
+      → Exactly (r ≡ 0) (RightSize W recorded wanted × ((page ≤ 8) × Room (pageLength (differs W recorded wanted page) W) out kinds))
+  group-0 {o} {k} f = then (same-number (f .answers .number)) (group-given W recorded wanted page out kinds (f .answer) o k (f .promised))
+
 module _ (W : ℕ) (wanted : List ℕ) (contrast : ℕ) (out kinds : List ℕ) (bytes : ℕ) where
   pub redraw-out-one : {o k o′ k′ : List ℕ} {a b r r′ : ℕ} → RedrawOut W wanted contrast out kinds bytes o k a r → RedrawOut W wanted contrast out kinds bytes o′ k′ b r′
       → (o ≡ o′) × (k ≡ k′) × (a ≡ b) × (r ≡ r′)
@@ -333,28 +350,6 @@ module _ (W : ℕ) (wanted : List ℕ) (contrast : ℕ) (out kinds : List ℕ) (
   pub redraw-number : {o k : List ℕ} {a r : ℕ} → RedrawOut W wanted contrast out kinds bytes o k a r → r ≡ redrawRefusal W wanted contrast out kinds
   redraw-number f = f .answers .number ∙ ap (λ o. o .number) (f .promised .tells) ∙ number-number (redrawRefusal W wanted contrast out kinds) _
 
-  redraw-given : (a : Count) (o k : List ℕ) → IsRedraw W wanted contrast out kinds a o k
-      → Exactly (toldCount a .number ≡ 0) ((length wanted ≡ 9 * W) × ((contrast ≤ 63) × Room (4 + 9 * (W + 3)) out kinds))
-  redraw-given a o k p = (
-    λ z. split (misfit W wanted)
-        (λ t. absurd (not-so 1 z (λ e. omega arith) (redraw-1 W wanted contrast out kinds a o k p .1 (misfit-yes W wanted .0 t))))
-        (λ t. let fit = misfit-no W wanted .0 t in
-        less 63 contrast
-        (λ l. absurd (not-so 6 z (λ e. omega arith) (redraw-6 W wanted contrast out kinds a o k p .1 (fit, l))))
-        (λ l. (fit, (l, room (4 + 9 * (W + 3)) out kinds (λ h. not-so 5 z (λ e. omega arith) (redraw-5 W wanted contrast out kinds a o k p .1 (fit, (l, h)))))))),
-    redraw-back a o k p,
-  )
-    where
-      redraw-back : (a : Count) (o k : List ℕ) → IsRedraw W wanted contrast out kinds a o k
-          → (length wanted ≡ 9 * W) × ((contrast ≤ 63) × Room (4 + 9 * (W + 3)) out kinds) → toldCount a .number ≡ 0
-      redraw-back (count.Bytes n) o k p h = refl
-      redraw-back (count.Refused n) o k p h = absurd (⊎-elim
-          (λ e. redraw-1 W wanted contrast out kinds (count.Refused n) o k p .0 (ap count.Refused e) (h .0))
-          (⊎-elim
-          (λ e. let l = redraw-6 W wanted contrast out kinds (count.Refused n) o k p .0 (ap count.Refused e) .1 in omega (arith, h .1 .0))
-          (λ e. no-short (4 + 9 * (W + 3)) out kinds (h .1 .1) (redraw-5 W wanted contrast out kinds (count.Refused n) o k p .0 (ap count.Refused e) .1 .1)))
-          (redraw-only W wanted contrast out kinds n o k p))
-
   pub redraw-0 : {o k : List ℕ} {a r : ℕ} → RedrawOut W wanted contrast out kinds bytes o k a r
       → Exactly (r ≡ 0) ((length wanted ≡ 9 * W) × ((contrast ≤ 63) × Room (4 + 9 * (W + 3)) out kinds))
-  redraw-0 {o} {k} f = then (same-number (f .answers .number)) (redraw-given (f .answer) o k (f .promised))
+  redraw-0 {o} {k} f = then (same-number (f .answers .number)) (redraw-given W wanted contrast out kinds (f .answer) o k (f .promised))

@@ -42,7 +42,7 @@ use Rattle.controller.specs.Run.{BusCycle}
 use Rattle.state.specs.Unfit.{unfit}
 use Rattle.face.specs.Chip.{CycledOn, CycleOut, ShownOn, FrameOut, PowerOut, VoltageOut, VoltageOut0717}
 use Rattle.face.specs.Bytes.{ReadOut, WriteOut}
-use Rattle.face.specs.Pictures.{FirstOut, LengthOut, UpdateOut, RedrawOut}
+use Rattle.face.specs.Pictures.{FirstOut, LengthOut, UpdateOut, GroupOut, RedrawOut}
 
 -- ---- each answer is not refused, or gives nothing
 
@@ -137,6 +137,12 @@ sent-leaves (count.Refused n) p h = let e = sent-refused-leaves p in (e .1, e .2
 pub update-refused-leaves : (W : ℕ) (recorded wanted out kinds : List ℕ) (bytes : ℕ) {o k : List ℕ} {bytes′ r : ℕ} → UpdateOut W recorded wanted out kinds bytes o k bytes′ r → r ≢ 0
     → (o ≡ out) × (k ≡ kinds) × (bytes′ ≡ bytes)
 update-refused-leaves W recorded wanted out kinds bytes f h =
+    let e = sent-leaves (f .answer) (f .promised) (λ z. h (f .answers .number ∙ z)) in
+    (e .0, e .1, refusal-leaves count-silent f h)
+
+pub group-refused-leaves : (W : ℕ) (recorded wanted : List ℕ) (page : ℕ) (out kinds : List ℕ) (bytes : ℕ) {o k : List ℕ} {bytes′ r : ℕ}
+    → GroupOut W recorded wanted page out kinds bytes o k bytes′ r → r ≢ 0 → (o ≡ out) × (k ≡ kinds) × (bytes′ ≡ bytes)
+group-refused-leaves W recorded wanted page out kinds bytes f h =
     let e = sent-leaves (f .answer) (f .promised) (λ z. h (f .answers .number ∙ z)) in
     (e .0, e .1, refusal-leaves count-silent f h)
 

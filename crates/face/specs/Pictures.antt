@@ -8,6 +8,7 @@ use Rattle.streams.specs.Stretch.{Place}
 use Rattle.planner.specs.First.{toldFound, IsFirst}
 use Rattle.planner.specs.Count.{toldCount, IsLength}
 use Rattle.planner.specs.Sent.{IsUpdate, IsRedraw}
+use Rattle.planner.specs.Group.{IsGroup}
 
 -- the three out-parameters of the first difference: found, page and column. Where there is none, page and column stay
 abbrev pub placeOut : ℕ × ℕ → Option Place → ℕ × ℕ × ℕ
@@ -26,6 +27,11 @@ LengthOut W recorded wanted count count′ r = Through (IsLength W recorded want
 abbrev pub UpdateOut : ℕ → List ℕ → List ℕ → List ℕ → List ℕ → ℕ → List ℕ → List ℕ → ℕ → ℕ → Type 0
 UpdateOut W recorded wanted out kinds count out′ kinds′ count′ r =
     Through (λ a. IsUpdate W recorded wanted out kinds a out′ kinds′) toldCount same count count′ r
+
+-- one page's group, in both outputs: refused with 1, 6, 5
+abbrev pub GroupOut : ℕ → List ℕ → List ℕ → ℕ → List ℕ → List ℕ → ℕ → List ℕ → List ℕ → ℕ → ℕ → Type 0
+GroupOut W recorded wanted page out kinds count out′ kinds′ count′ r =
+    Through (λ a. IsGroup W recorded wanted page out kinds a out′ kinds′) toldCount same count count′ r
 
 -- the redraw, in both outputs: refused with 1, 6, 5
 abbrev pub RedrawOut : ℕ → List ℕ → ℕ → List ℕ → List ℕ → ℕ → List ℕ → List ℕ → ℕ → ℕ → Type 0

@@ -2,3 +2,4 @@ pub mod FiguresHold
 pub mod WorkedHolds
 pub mod RecordedHolds
 pub mod Ks0759Holds
+pub mod GroupsHold

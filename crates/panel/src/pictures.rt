@@ -1,8 +1,9 @@
 // Two pictures of the KS0713, or one: the first difference, and the streams that show what is wanted.
-ghost use Rattle.face.specs.Pictures.{FirstOut, LengthOut, UpdateOut, RedrawOut};
+ghost use Rattle.face.specs.Pictures.{FirstOut, LengthOut, UpdateOut, GroupOut, RedrawOut};
 use face::pictures::tell_count;
 use face::pictures::tell_found;
 use planner::first::first_difference;
+use planner::group::page_group;
 use planner::length::update_length;
 use planner::redraw::redraw;
 use planner::update::update;
@@ -44,6 +45,22 @@ pub extern "C" fn panel_update(
         (now (out .exit)) (now (kinds .exit)) (now (count .exit)) r ⌝ }
 {
     tell_count(update(recorded, wanted, out, kinds), count)
+}
+
+// One page's group of the update: its bytes and kinds, and how many. Refuses with 1, 6, 5.
+#[no_mangle]
+pub extern "C" fn panel_page_group(
+    recorded: &[u8],
+    wanted: &[u8],
+    page: usize,
+    out: &mut [u8],
+    kinds: &mut [u8],
+    count: &mut usize,
+) -> u8
+    ensures { λ r. ⌜ GroupOut 132 (now (recorded .entry)) (now (wanted .entry)) page (now (out .entry)) (now (kinds .entry)) (now (count .entry))
+        (now (out .exit)) (now (kinds .exit)) (now (count .exit)) r ⌝ }
+{
+    tell_count(page_group(recorded, wanted, page, out, kinds), count)
 }
 
 // The redraw's bytes and kinds, and how many. Refuses with 1, 6, 5.

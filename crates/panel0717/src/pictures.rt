@@ -1,8 +1,9 @@
 // Two pictures of the KS0717, or one: the first difference, and the streams that show what is wanted.
-ghost use Rattle.face.specs.Pictures.{FirstOut, LengthOut, UpdateOut, RedrawOut};
+ghost use Rattle.face.specs.Pictures.{FirstOut, LengthOut, UpdateOut, GroupOut, RedrawOut};
 use face::pictures::tell_count;
 use face::pictures::tell_found;
 use planner::first::first_difference_ks0717;
+use planner::group::page_group_ks0717;
 use planner::length::update_length_ks0717;
 use planner::redraw::redraw_ks0717;
 use planner::update::update_ks0717;
@@ -49,6 +50,22 @@ pub extern "C" fn panel0717_update(
         (now (out .exit)) (now (kinds .exit)) (now (count .exit)) r ⌝ }
 {
     tell_count(update_ks0717(recorded, wanted, out, kinds), count)
+}
+
+// One page's group of the update: its bytes and kinds, and how many. Refuses with 1, 6, 5.
+#[no_mangle]
+pub extern "C" fn panel0717_page_group(
+    recorded: &[u8],
+    wanted: &[u8],
+    page: usize,
+    out: &mut [u8],
+    kinds: &mut [u8],
+    count: &mut usize,
+) -> u8
+    ensures { λ r. ⌜ GroupOut 100 (now (recorded .entry)) (now (wanted .entry)) page (now (out .entry)) (now (kinds .entry)) (now (count .entry))
+        (now (out .exit)) (now (kinds .exit)) (now (count .exit)) r ⌝ }
+{
+    tell_count(page_group_ks0717(recorded, wanted, page, out, kinds), count)
 }
 
 // The redraw's bytes and kinds, and how many. Refuses with 1, 6, 5.

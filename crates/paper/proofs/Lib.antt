@@ -1,6 +1,7 @@
 pub mod Cases
 pub mod Either
 pub mod Exactly
+pub mod Threefold
 pub mod Every
 pub mod Left
 pub mod Listed

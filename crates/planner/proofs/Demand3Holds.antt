@@ -4,6 +4,7 @@
 -- Assumes nothing.
 use Prim.Native.Nat.{ℕ, _+_, _*_, _≤_, _<_}
 use mathlib.Core.Path.{_≡_, _∙_, refl, ap, sym, subst}
+use mathlib.Core.Logic.{_≢_}
 use mathlib.Core.Bool.{Bool, true, false, cond}
 use mathlib.Core.Option.{none, some}
 use mathlib.Core.List.{List, [], _∷_, _++_, map}
@@ -11,12 +12,12 @@ use native.Mathlib.Omega.{arith}
 use lib.Dec.{lit≤, ltb, eqb}
 use borrow.Author.Tests.{eqb-true, ne-eqb, ltb-false}
 use lib.ListN.{length, take, drop, replicate}
-use Rattle.paper.specs.Refusal.{wrongSize, outsideField, shortOutput}
 use Rattle.paper.specs.Told.{given}
 use Rattle.paper.specs.Sheet.{Sensible, sheet0713, sheet0717}
 use Rattle.paper.specs.declared.sheet.Sheet.{Sheet}
 use Rattle.paper.proofs.Sensible.{sensible0713, sensible0717}
 use Rattle.paper.proofs.Telling.{given-one, not-given}
+use Rattle.paper.proofs.Threefold.{threefold-0}
 use Rattle.registers.specs.Registers.{PoweredUp}
 use Rattle.registers.specs.declared.Registers.{Registers}
 use Rattle.registers.proofs.InRange.{powered-inside}
@@ -25,14 +26,13 @@ use Rattle.controller.specs.Cycle.{answer}
 use Rattle.controller.specs.State.{State, state, run, numbers, rest, settings}
 use Rattle.controller.proofs.Chips.{chipOf, restartOf, moved, redrawn}
 use Rattle.controller.proofs.Marks.{sent-stale, next-tells}
-use Rattle.streams.specs.Stretch.{Stretch, OfKind, emit}
 use Rattle.streams.specs.Update.{update, updateStream}
 use Rattle.streams.specs.Redraw.{redrawStream}
 use Rattle.streams.specs.Demand.{Recorded, Restarts}
 use Rattle.streams.proofs.Pictures.{same-refl}
 use Rattle.streams.proofs.Painting.{update-kind}
 use Rattle.streams.proofs.Length.{update-length, update-most, redraw-length}
-use Rattle.streams.proofs.Emitting.{emit-nil, cons-length, emit-no-read, emit-has-write}
+use Rattle.streams.proofs.Emitting.{Writes, emit-writes}
 use Rattle.streams.proofs.Updating.{update-emits, update-right, update-least, update-cut, cut-accepted}
 use Rattle.streams.proofs.Redrawing.{redraw-no-read, redraw-has-write, redraw-right, redraw-cut}
 use Rattle.planner.specs.Pictures.{misfit}
@@ -60,24 +60,19 @@ module _ {number : ℕ} {s : List BusCycle} {out kinds : List ℕ} {n : ℕ} {ou
   sent-is = sent-by (eqb number 0) refl
 
 -- a redraw that is not refused has a contrast inside its field
-contrast-by : (a b c : Bool) → cond a wrongSize (cond b outsideField (cond c shortOutput 0)) ≡ 0 → b ≡ false
-contrast-by true b c e = absurd (let z : _≡_ {A = ℕ} 1 0 = e in omega arith)
-contrast-by false true c e = absurd (let z : _≡_ {A = ℕ} 6 0 = e in omega arith)
-contrast-by false false c e = refl
-
 contrast-small : (W : ℕ) (wanted : List ℕ) (contrast : ℕ) (out kinds : List ℕ) → redrawRefusal W wanted contrast out kinds ≡ 0 → contrast < 64
 unfolding redrawRefusal
 contrast-small W wanted contrast out kinds e =
-    omega (arith, ltb-false 63 contrast (contrast-by (misfit W wanted) (ltb 63 contrast) (tooShort (redrawStream W wanted contrast) out kinds) e))
+    omega (arith, ltb-false 63 contrast (threefold-0 (misfit W wanted) (ltb 63 contrast) (tooShort (redrawStream W wanted contrast) out kinds) .0 e .1 .0))
 
--- ---- the mark after accepted stretches of the kind: what it was where there are none, else stale
+-- ---- the mark after accepted cycles that write and never read: what it was where there are none, else stale
 
-emitted-mark : (k : Sheet) (s : State) (xs : List Stretch) → OfKind (k .width) xs → numbers k s (emit none xs) ≡ replicate (length (emit none xs)) 0
-    → run k s (emit none xs) .registers .fresh ≡ cond (eqb (length (emit none xs)) 0) (s .registers .fresh) false
-emitted-mark k s [] ok a = rw (emit-nil none) refl
-emitted-mark k s (x ∷ xs) ok a =
-    sent-stale k (emit none (x ∷ xs)) s a (emit-no-read none (x ∷ xs)) (emit-has-write none x xs (ok .1))
-    ∙ rw (ne-eqb (length (emit none (x ∷ xs))) 0 (λ e. omega (arith, cons-length none x xs, ok .1))) refl
+pub written-mark : (k : Sheet) (s : State) (cycles : List BusCycle) → Writes cycles → numbers k s cycles ≡ replicate (length cycles) 0
+    → run k s cycles .registers .fresh ≡ cond (eqb (length cycles) 0) (s .registers .fresh) false
+written-mark k s [] w a = refl
+written-mark k s (x ∷ xs) w a =
+    let some : length (x ∷ xs) ≢ 0 = λ e. omega arith in
+    sent-stale k (x ∷ xs) s a (w .0) (w .1 (λ e. some (ap length e))) ∙ rw (ne-eqb (length (x ∷ xs)) 0 some) refl
 
 -- ---- a chip whose sheet makes sense
 
@@ -125,9 +120,8 @@ module _ (k : Sheet) (g : Sensible k) where
       let u = update-right (chipOf k g) s recorded wanted p in
       let n = update-length (k .width) recorded wanted in
       let e = update-emits (k .width) recorded wanted in
-      let mark : t .registers .fresh ≡ cond (eqb (length cycles) 0) (r .fresh) false = subst (λ (c : List BusCycle). run k s c .registers .fresh ≡ cond (eqb (length c) 0) (r .fresh) false) (sym e)
-      (emitted-mark k s (update (k .width) recorded wanted) (update-kind (k .width) recorded wanted)
-      (subst (λ (c : List BusCycle). numbers k s c ≡ replicate (length c) 0) e (u .leaves .accepted))) in
+      let kind = update-kind (k .width) recorded wanted in
+      let mark = written-mark k s cycles (subst Writes (sym e) (emit-writes (k .width) none (update (k .width) recorded wanted) kind)) (u .leaves .accepted) in
       record {
         accepted = u .leaves .accepted;
         holds = holding t wanted (u .leaves .recorded);
@@ -135,7 +129,7 @@ module _ (k : Sheet) (g : Sensible k) where
         registers = moved (t .registers) r (u .rest) (ap (λ v. v .page) (u .exact)) (ap (λ v. v .column) (u .exact)) (ap (λ v. v .holder) (u .exact)) mark;
         count = n;
         most = omega (arith, n, update-most (k .width) recorded wanted);
-        of-kind = update-kind (k .width) recorded wanted;
+        of-kind = kind;
         stream = e;
         least = λ xs ok e. omega (arith, n, update-least (chipOf k g) s recorded wanted p xs ok e);
         cut = λ n. update-cut (chipOf k g) s recorded wanted p n .between;

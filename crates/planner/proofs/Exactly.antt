@@ -1,6 +1,6 @@
 -- When a test of the promises holds, in the words of document 01's table.
 -- Assumes nothing.
-use Prim.Native.Nat.{ℕ, _*_, _<_}
+use Prim.Native.Nat.{ℕ, _*_, _≤_, _<_}
 use mathlib.Core.Path.{_≡_}
 use mathlib.Core.Logic.{_≢_, _⊎_, inl, inr, ⊎-elim}
 use mathlib.Core.Bool.{true, false, _||_}
@@ -9,7 +9,7 @@ use lib.ListN.{length}
 use lib.Dec.{ltb, eqb}
 use borrow.Author.Tests.{ltb-true, lt-ltb, eqb-true, eqb-false, eq-eqb, ne-eqb, not-true, not-false}
 use Rattle.paper.proofs.Either.{either, or-true, or-left, or-right}
-use Rattle.paper.proofs.Exactly.{Exactly}
+use Rattle.paper.proofs.Exactly.{Exactly, not-below, nor-exactly}
 use Rattle.controller.specs.Run.{BusCycle}
 use Rattle.planner.specs.Pictures.{misfit}
 use Rattle.planner.specs.Sent.{tooShort}
@@ -56,3 +56,13 @@ short-output s out kinds need known = rw known (
       (λ h. or-true (ltb (length out) need) (ltb (length kinds) need) (inl (lt-ltb (length out) need h)))
       (λ h. or-true (ltb (length out) need) (ltb (length kinds) need) (inr (lt-ltb (length kinds) need h))),
 )
+
+-- and neither is
+
+abbrev pub LongOutput : ℕ → List ℕ → List ℕ → Type 0
+LongOutput need out kinds = (need ≤ length out) × (need ≤ length kinds)
+
+pub long-output : (s : List BusCycle) (out kinds : List ℕ) (need : ℕ) → length s ≡ need
+    → Exactly (tooShort s out kinds ≡ false) (LongOutput need out kinds)
+unfolding tooShort
+long-output s out kinds need known = rw known (nor-exactly (ltb (length out) need) (ltb (length kinds) need) (not-below need) (not-below need))

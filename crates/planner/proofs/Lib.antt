@@ -7,3 +7,4 @@ pub mod Exactly
 pub mod Promised
 pub mod ShutOuts
 pub mod Demand3Holds
+pub mod AnyOrderHolds

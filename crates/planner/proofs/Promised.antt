@@ -1,4 +1,4 @@
--- What the four promises fix. Two answers that a promise admits are equal, and so are the outputs they leave; each number is
+-- What the five promises fix. Two answers that a promise admits are equal, and so are the outputs they leave; each number is
 -- answered exactly when its line of document 01's table holds and none earlier in the order does, and a refusal leaves both outputs
 -- as they were; the first difference is the first in reading order; outputs that are long enough get their stream. All from the
 -- promises alone: what is told of an answer has an inverse, and each promise names the number.
@@ -6,36 +6,40 @@
 use Prim.Native.Nat.{ℕ, _+_, _*_, _≤_, _<_}
 use mathlib.Core.Path.{_≡_, refl, sym, ap, subst, _∙_}
 use mathlib.Core.Logic.{_≢_, _⊎_, inl, inr, ⊎-elim}
-use mathlib.Core.Bool.{Bool, false, cond, _||_}
+use mathlib.Core.Bool.{Bool, true, false, cond, _||_}
 use mathlib.Core.Option.{Option, none, some}
 use mathlib.Core.List.{List, map}
 use native.Mathlib.Omega.{arith}
 use lib.ListN.{length, length-append, length-map}
 use lib.Dec.{ltb, eqb}
-use borrow.Author.Tests.{ltb-true, ltb-false, lt-ltb, le-ltb, eqb-true}
+use borrow.Author.Tests.{le-ltb, eqb-true}
 use Rattle.paper.specs.Told.{given}
 use Rattle.paper.specs.Over.{over}
 use Rattle.paper.proofs.Telling.{apart, answerOf, some-one, none-some}
 use Rattle.paper.proofs.Answering.{refused-number}
 use Rattle.paper.proofs.Cases.{split}
-use Rattle.paper.proofs.Exactly.{Exactly, then, both, same-number, here, past, nowhere, among}
+use Rattle.paper.proofs.Exactly.{Exactly, then, both, same-number, below, not-below, here, past, nowhere, among}
+use Rattle.paper.proofs.Threefold.{threefold, threefold-1, threefold-6, threefold-5, threefold-0, threefold-only}
 use Rattle.controller.specs.Run.{BusCycle}
-use Rattle.streams.specs.Picture.{shown, Same}
+use Rattle.streams.specs.Picture.{shown, differs, Same}
 use Rattle.streams.specs.Stretch.{Place}
 use Rattle.streams.specs.Update.{updateStream}
-use Rattle.streams.specs.Length.{updateLength}
+use Rattle.streams.specs.Length.{pageLength, updateLength}
 use Rattle.streams.specs.Redraw.{redrawStream}
+use Rattle.streams.specs.Shape.{group}
 use Rattle.streams.proofs.Pictures.{differs-true, differs-false, same-nowhere, nowhere-same}
 use Rattle.streams.proofs.Length.{update-length, update-most, redraw-length}
+use Rattle.streams.proofs.Grouping.{group-length, group-most}
 use Rattle.planner.specs.Pictures.{misfit}
 use Rattle.planner.specs.First.{firstFrom, firstDifference, toldFound, IsFirst}
 use Rattle.planner.specs.Count.{toldCount, IsLength}
 use Rattle.planner.specs.Sent.{byteOf, kindOf, tooShort, Sent, updateRefusal, redrawRefusal, IsUpdate, IsRedraw}
+use Rattle.planner.specs.Group.{groupRefusal, IsGroup}
 use Rattle.planner.specs.declared.count.Count.{Count}
 use Rattle.planner.specs.declared.count.Count.the-variants as count
 use Rattle.planner.specs.declared.first.Found.{Found}
 use Rattle.planner.specs.declared.first.Found.the-variants as found
-use Rattle.planner.proofs.Exactly.{WrongSize, RightSize, ShortOutput, misfit-yes, misfit-no, wrong-size, right-size, short-output}
+use Rattle.planner.proofs.Exactly.{WrongSize, RightSize, ShortOutput, LongOutput, misfit-yes, misfit-no, wrong-size, right-size, short-output, long-output}
 use Rattle.planner.proofs.Scanning.{from-at, none-at, from-none, first-given}
 
 -- ---- what is told of an answer tells all answers apart
@@ -80,6 +84,10 @@ update-one W r w f g = sent-one f g
 pub redraw-one : (W : ℕ) (w : List ℕ) (contrast : ℕ) {out kinds : List ℕ} {a b : Count} {o k o′ k′ : List ℕ}
     → IsRedraw W w contrast out kinds a o k → IsRedraw W w contrast out kinds b o′ k′ → (a ≡ b) × (o ≡ o′) × (k ≡ k′)
 redraw-one W w contrast f g = sent-one f g
+
+pub group-one : (W : ℕ) (r w : List ℕ) (p : ℕ) {out kinds : List ℕ} {a b : Count} {o k o′ k′ : List ℕ}
+    → IsGroup W r w p out kinds a o k → IsGroup W r w p out kinds b o′ k′ → (a ≡ b) × (o ≡ o′) × (k ≡ k′)
+group-one W r w p f g = sent-one f g
 
 -- ---- the number that an answer tells
 
@@ -177,48 +185,80 @@ module _ (W : ℕ) (r w out kinds : List ℕ) where
       (λ e. ⊎-elim inr (λ z. absurd (sent-refused-leaves f .0 z)) (among short 5 0 n e))
       (among wrong 1 (cond short 5 0) n (update-number (count.Refused n) o k f))
 
--- ---- redraw is refused with 1, then 6, then 5
+-- ---- page_group and redraw are refused with 1, then 6, then 5
+
+-- a stream's call that three tests refuse
+module _ (wrong outside brief : Bool) {s : List BusCycle} {out kinds : List ℕ} {a : Count} {o k : List ℕ} (f : Sent (threefold wrong outside brief) s out kinds a o k) where
+  three-number : (n : ℕ) → n ≢ 0 → Exactly (a ≡ count.Refused n) (threefold wrong outside brief ≡ n)
+  three-number n h = then (count-refused n a h) (same-number (sent-number _ s out kinds a o k f))
+
+  three-1 : Exactly (a ≡ count.Refused 1) (wrong ≡ true)
+  three-1 = then (three-number 1 (λ e. omega arith)) (threefold-1 wrong outside brief)
+
+  three-6 : Exactly (a ≡ count.Refused 6) ((wrong ≡ false) × (outside ≡ true))
+  three-6 = then (three-number 6 (λ e. omega arith)) (threefold-6 wrong outside brief)
+
+  three-5 : Exactly (a ≡ count.Refused 5) ((wrong ≡ false) × ((outside ≡ false) × (brief ≡ true)))
+  three-5 = then (three-number 5 (λ e. omega arith)) (threefold-5 wrong outside brief)
+
+  three-0 : Exactly (toldCount a .number ≡ 0) ((wrong ≡ false) × ((outside ≡ false) × (brief ≡ false)))
+  three-0 = then (same-number (sent-number _ s out kinds a o k f)) (threefold-0 wrong outside brief)
+
+  three-only : (n : ℕ) → a ≡ count.Refused n → n ≢ 0 → (n ≡ 1) ⊎ ((n ≡ 6) ⊎ (n ≡ 5))
+  three-only n e h = threefold-only wrong outside brief n h (sym (three-number n h .0 e))
+
+module _ (W : ℕ) (r w : List ℕ) (p : ℕ) (out kinds : List ℕ) where
+  module _ (a : Count) (o k : List ℕ) (f : IsGroup W r w p out kinds a o k) where
+    pub group-1 : Exactly (a ≡ count.Refused 1) (WrongSize W r w)
+    unfolding groupRefusal
+    group-1 = then (three-1 (misfit W r || misfit W w) (ltb 8 p) (tooShort (group W r w p) out kinds) f) (wrong-size W r w)
+
+    pub group-6 : Exactly (a ≡ count.Refused 6) (RightSize W r w × (8 < p))
+    unfolding groupRefusal
+    group-6 = then (three-6 (misfit W r || misfit W w) (ltb 8 p) (tooShort (group W r w p) out kinds) f) (both (right-size W r w) (below p))
+
+    pub group-5 : Exactly (a ≡ count.Refused 5) (RightSize W r w × ((p ≤ 8) × ShortOutput (pageLength (differs W r w p) W) out kinds))
+    unfolding groupRefusal
+    group-5 =
+        then (three-5 (misfit W r || misfit W w) (ltb 8 p) (tooShort (group W r w p) out kinds) f)
+        (both (right-size W r w) (both (not-below p) (short-output (group W r w p) out kinds (pageLength (differs W r w p) W) (group-length W r w p))))
+
+    -- and with none exactly if all three are right
+    pub group-0 : Exactly (toldCount a .number ≡ 0) (RightSize W r w × ((p ≤ 8) × LongOutput (pageLength (differs W r w p) W) out kinds))
+    unfolding groupRefusal
+    group-0 =
+        then (three-0 (misfit W r || misfit W w) (ltb 8 p) (tooShort (group W r w p) out kinds) f)
+        (both (right-size W r w) (both (not-below p) (long-output (group W r w p) out kinds (pageLength (differs W r w p) W) (group-length W r w p))))
+
+  pub group-only : (n : ℕ) (o k : List ℕ) → IsGroup W r w p out kinds (count.Refused n) o k → (n ≡ 1) ⊎ ((n ≡ 6) ⊎ (n ≡ 5))
+  unfolding groupRefusal
+  group-only n o k f = three-only (misfit W r || misfit W w) (ltb 8 p) (tooShort (group W r w p) out kinds) f n refl (sent-refused-leaves f .0)
 
 module _ (W : ℕ) (w : List ℕ) (contrast : ℕ) (out kinds : List ℕ) where
-  brief : Bool
-  brief = tooShort (redrawStream W w contrast) out kinds
-
   module _ (a : Count) (o k : List ℕ) (f : IsRedraw W w contrast out kinds a o k) where
-    redraw-number : toldCount a .number ≡ cond (misfit W w) 1 (cond (ltb 63 contrast) 6 (cond brief 5 0))
-    unfolding redrawRefusal brief
-    redraw-number = sent-number (redrawRefusal W w contrast out kinds) (redrawStream W w contrast) out kinds a o k f
-
     pub redraw-1 : Exactly (a ≡ count.Refused 1) (length w ≢ 9 * W)
-    redraw-1 =
-        then (count-refused 1 a (λ e. omega arith))
-        (then (same-number redraw-number)
-        (then (here (misfit W w) 1 (cond (ltb 63 contrast) 6 (cond brief 5 0))
-        (nowhere (ltb 63 contrast) 6 (cond brief 5 0) 1 (λ e. omega arith) (nowhere brief 5 0 1 (λ e. omega arith) (λ e. omega arith)))) (misfit-yes W w)))
+    unfolding redrawRefusal
+    redraw-1 = then (three-1 (misfit W w) (ltb 63 contrast) (tooShort (redrawStream W w contrast) out kinds) f) (misfit-yes W w)
 
     pub redraw-6 : Exactly (a ≡ count.Refused 6) ((length w ≡ 9 * W) × (63 < contrast))
-    redraw-6 =
-        then (count-refused 6 a (λ e. omega arith))
-        (then (same-number redraw-number)
-        (then (past (misfit W w) 1 (cond (ltb 63 contrast) 6 (cond brief 5 0)) 6 (λ e. omega arith))
-        (both (misfit-no W w)
-        (then (here (ltb 63 contrast) 6 (cond brief 5 0) (nowhere brief 5 0 6 (λ e. omega arith) (λ e. omega arith))) (ltb-true 63 contrast, lt-ltb 63 contrast)))))
+    unfolding redrawRefusal
+    redraw-6 = then (three-6 (misfit W w) (ltb 63 contrast) (tooShort (redrawStream W w contrast) out kinds) f) (both (misfit-no W w) (below contrast))
 
     pub redraw-5 : Exactly (a ≡ count.Refused 5) ((length w ≡ 9 * W) × ((contrast ≤ 63) × ShortOutput (4 + 9 * (W + 3)) out kinds))
-    unfolding brief
+    unfolding redrawRefusal
     redraw-5 =
-        then (count-refused 5 a (λ e. omega arith))
-        (then (same-number redraw-number)
-        (then (past (misfit W w) 1 (cond (ltb 63 contrast) 6 (cond brief 5 0)) 5 (λ e. omega arith))
-        (both (misfit-no W w)
-        (then (past (ltb 63 contrast) 6 (cond brief 5 0) 5 (λ e. omega arith))
-        (both (ltb-false 63 contrast, le-ltb 63 contrast)
-        (then (here brief 5 0 (λ e. omega arith)) (short-output (redrawStream W w contrast) out kinds (4 + 9 * (W + 3)) (redraw-length W w contrast))))))))
+        then (three-5 (misfit W w) (ltb 63 contrast) (tooShort (redrawStream W w contrast) out kinds) f)
+        (both (misfit-no W w) (both (not-below contrast) (short-output (redrawStream W w contrast) out kinds (4 + 9 * (W + 3)) (redraw-length W w contrast))))
+
+    pub redraw-0 : Exactly (toldCount a .number ≡ 0) ((length w ≡ 9 * W) × ((contrast ≤ 63) × LongOutput (4 + 9 * (W + 3)) out kinds))
+    unfolding redrawRefusal
+    redraw-0 =
+        then (three-0 (misfit W w) (ltb 63 contrast) (tooShort (redrawStream W w contrast) out kinds) f)
+        (both (misfit-no W w) (both (not-below contrast) (long-output (redrawStream W w contrast) out kinds (4 + 9 * (W + 3)) (redraw-length W w contrast))))
 
   pub redraw-only : (n : ℕ) (o k : List ℕ) → IsRedraw W w contrast out kinds (count.Refused n) o k → (n ≡ 1) ⊎ ((n ≡ 6) ⊎ (n ≡ 5))
-  redraw-only n o k f = ⊎-elim
-      inl
-      (λ e. inr (⊎-elim inl (λ d. inr (⊎-elim (λ x. x) (λ z. absurd (sent-refused-leaves f .0 z)) (among brief 5 0 n d))) (among (ltb 63 contrast) 6 (cond brief 5 0) n e)))
-      (among (misfit W w) 1 (cond (ltb 63 contrast) 6 (cond brief 5 0)) n (redraw-number (count.Refused n) o k f))
+  unfolding redrawRefusal
+  redraw-only n o k f = three-only (misfit W w) (ltb 63 contrast) (tooShort (redrawStream W w contrast) out kinds) f n refl (sent-refused-leaves f .0)
 
 -- ---- a refusal's number is not 0, and it alters nothing
 
@@ -231,6 +271,10 @@ length-not-0 W r w n f z = omega (arith, length-only W r w n f)
 pub update-refused-leaves : (W : ℕ) (r w out kinds : List ℕ) (n : ℕ) (o k : List ℕ)
     → IsUpdate W r w out kinds (count.Refused n) o k → (n ≢ 0) × (o ≡ out) × (k ≡ kinds)
 update-refused-leaves W r w out kinds n o k f = sent-refused-leaves f
+
+pub group-refused-leaves : (W : ℕ) (r w : List ℕ) (p : ℕ) (out kinds : List ℕ) (n : ℕ) (o k : List ℕ)
+    → IsGroup W r w p out kinds (count.Refused n) o k → (n ≢ 0) × (o ≡ out) × (k ≡ kinds)
+group-refused-leaves W r w p out kinds n o k f = sent-refused-leaves f
 
 pub redraw-refused-leaves : (W : ℕ) (w : List ℕ) (contrast : ℕ) (out kinds : List ℕ) (n : ℕ) (o k : List ℕ)
     → IsRedraw W w contrast out kinds (count.Refused n) o k → (n ≢ 0) × (o ≡ out) × (k ≡ kinds)
@@ -267,6 +311,14 @@ update-always W r w out kinds a o k f fit g h =
     let l = update-length W r w in
     let m = update-most W r w in
     is-given (rw (right-size W r w .1 fit, long-enough (updateStream W r w) out kinds (omega arith) (omega arith))) f
+
+-- a whole page and its address are always enough for a group: 135 bytes
+pub group-always : (W : ℕ) (r w : List ℕ) (p : ℕ) (out kinds : List ℕ) (a : Count) (o k : List ℕ) → IsGroup W r w p out kinds a o k → RightSize W r w
+    → p ≤ 8 → W + 3 ≤ length out → W + 3 ≤ length kinds → Given (group W r w p) out kinds a o k
+unfolding groupRefusal
+group-always W r w p out kinds a o k f fit inside g h =
+    let m = group-most W r w p in
+    is-given (rw (right-size W r w .1 fit, le-ltb 8 p inside, long-enough (group W r w p) out kinds (omega arith) (omega arith))) f
 
 -- four bytes more are enough for a redraw: 1,219 bytes
 pub redraw-always : (W : ℕ) (w : List ℕ) (contrast : ℕ) (out kinds : List ℕ) (a : Count) (o k : List ℕ) → IsRedraw W w contrast out kinds a o k

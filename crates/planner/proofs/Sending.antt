@@ -1,4 +1,4 @@
--- What update and redraw answer: refused with a number, or given. The code's tests are those of the definitions, since the length
+-- What update, page_group and redraw answer: refused with a number, or given. The code's tests are those of the definitions, since the length
 -- that it knows is the stream's.
 -- Assumes nothing.
 use Prim.Native.Nat.{ℕ, _+_, _*_, _≤_, _<_}
@@ -14,15 +14,19 @@ use borrow.Author.Tests.{lt-ltb, le-ltb, ltb-false}
 use Rattle.paper.specs.Told.{given}
 use Rattle.paper.proofs.Either.{or-left, or-right}
 use Rattle.controller.specs.Run.{BusCycle}
+use Rattle.streams.specs.Picture.{differs}
 use Rattle.streams.specs.Stretch.{emit}
 use Rattle.streams.specs.Update.{updateStream}
-use Rattle.streams.specs.Length.{updateLength}
+use Rattle.streams.specs.Length.{pageLength, updateLength}
 use Rattle.streams.specs.Redraw.{wholePages, opening, redrawStream}
-use Rattle.streams.specs.Walk.{walkPages}
+use Rattle.streams.specs.Walk.{walk, walkPages}
+use Rattle.streams.specs.Shape.{group}
 use Rattle.streams.proofs.Length.{update-length, redraw-length}
 use Rattle.streams.proofs.Walking.{update-walk, redraw-walk}
+use Rattle.streams.proofs.Grouping.{group-walk, group-length}
 use Rattle.planner.specs.Pictures.{misfit}
 use Rattle.planner.specs.Sent.{byteOf, kindOf, tooShort, Sent, updateRefusal, redrawRefusal, IsUpdate, IsRedraw}
+use Rattle.planner.specs.Group.{groupRefusal, IsGroup}
 use Rattle.planner.specs.Output.{shorter, Room, Wrote}
 use Rattle.planner.specs.declared.count.Count.the-variants.{Bytes, Refused}
 use Rattle.planner.proofs.Writing.{put-over}
@@ -85,6 +89,36 @@ module _ (W : ℕ) (r w out kinds : List ℕ) where
     unfolding updateRefusal
     update-given {n = n} h v =
         sent-given _ n (updateStream W r w) out kinds (rw (fit, short-is (updateStream W r w) out kinds _ exact h)) (rw (update-walk W r w) v)
+
+-- ---- one page's group
+
+module _ (W : ℕ) (r w : List ℕ) (p : ℕ) (out kinds : List ℕ) where
+  pub group-misfit : (misfit W r || misfit W w) ≡ true → IsGroup W r w p out kinds (Refused 1) out kinds
+  unfolding groupRefusal
+  group-misfit e = sent-refused _ 1 (group W r w p) out kinds (rw e) refl
+
+  module _ (fit : (misfit W r || misfit W w) ≡ false) where
+    pub group-outside : 8 < p → IsGroup W r w p out kinds (Refused 6) out kinds
+    unfolding groupRefusal
+    group-outside h = sent-refused _ 6 (group W r w p) out kinds (rw (fit, lt-ltb 8 p h)) refl
+
+    module _ (inside : p ≤ 8) where
+      exactly : pageLength (differs W r w p) W ≡ length (group W r w p)
+      exactly = sym (group-length W r w p)
+
+      pub group-short : short out kinds (pageLength (differs W r w p) W) ≡ true → IsGroup W r w p out kinds (Refused 5) out kinds
+      unfolding groupRefusal
+      group-short h =
+          sent-refused _ 5 (group W r w p) out kinds (rw (fit, le-ltb 8 p inside, short-is (group W r w p) out kinds _ exactly h)) refl
+
+      pub group-room : short out kinds (pageLength (differs W r w p) W) ≡ false → Room (walk W w p (differs W r w p) false 0 0 W) out kinds 0
+      group-room h = rw (group-walk W r w p) at (room-is (group W r w p) out kinds _ exactly h)
+
+      pub group-given : {out′ kinds′ : List ℕ} {n : ℕ} → short out kinds (pageLength (differs W r w p) W) ≡ false
+          → Wrote (walk W w p (differs W r w p) false 0 0 W) out kinds 0 out′ kinds′ n → IsGroup W r w p out kinds (Bytes n) out′ kinds′
+      unfolding groupRefusal
+      group-given {n = n} h v =
+          sent-given _ n (group W r w p) out kinds (rw (fit, le-ltb 8 p inside, short-is (group W r w p) out kinds _ exactly h)) (rw (group-walk W r w p) v)
 
 -- ---- the redraw
 

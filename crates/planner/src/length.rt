@@ -53,7 +53,7 @@ fn count_column(
 }
 
 // The bytes of one page's work: none, or those of its columns and the page byte.
-fn page_length(recorded: &[u8], wanted: &[u8], width: usize, page: usize) -> usize
+pub(crate) fn page_length(recorded: &[u8], wanted: &[u8], width: usize, page: usize) -> usize
     requires { ⌜ Pictures width (now recorded) (now wanted) × (page < 9) ⌝ }
     ensures { λ r. ⌜ r ≡ pageLength (differs width (now (recorded .entry)) (now (wanted .entry)) page) width ⌝ }
 {

@@ -89,7 +89,7 @@ fn update_column(
 }
 
 // One page's work, from index `at` on.
-fn update_page(
+pub(crate) fn update_page(
     recorded: &[u8],
     wanted: &[u8],
     width: usize,

@@ -4,7 +4,7 @@
 -- Assumes nothing.
 use Prim.Native.Nat.{ℕ, _+_, _*_, _≤_, _<_}
 use mathlib.Core.Path.{_≡_, sym, ap, subst, _∙_}
-use mathlib.Core.Logic.{_≢_, _⊎_, inl, inr, ⊎-elim}
+use mathlib.Core.Logic.{_≢_, _⊎_}
 use mathlib.Core.Bool.{Bool, true, false, cond, _||_}
 use mathlib.Core.List.{List}
 use native.Mathlib.Omega.{arith}
@@ -15,7 +15,8 @@ use lib.Seq.{take-at}
 use Rattle.paper.specs.Over.{over}
 use Rattle.paper.specs.Told.{given}
 use Rattle.paper.proofs.Telling.{given-one}
-use Rattle.paper.proofs.Exactly.{Exactly, then, both, below, not-below, or-exactly, nor-exactly, joined, same-number, here, past, nowhere, among}
+use Rattle.paper.proofs.Exactly.{Exactly, then, both, below, not-below, or-exactly, nor-exactly, joined, same-number, here}
+use Rattle.paper.proofs.Threefold.{threefold, threefold-1, threefold-6, threefold-5, threefold-0, threefold-only}
 use Rattle.instructions.specs.declared.added.CommandSet.{CommandSet}
 use Rattle.bus.specs.Cycles.{cyclesOf}
 use Rattle.planner.specs.declared.count.Count.{Count}
@@ -58,7 +59,7 @@ module _ (set : CommandSet) (cycles : List ℕ) (p : ℕ) (pictures out : List �
   abbrev brief : Bool
   brief = ltb (length out) (length file)
 
-  number-is : jobRefusal set (cyclesOf cycles) p pictures out ≡ cond misfit 1 (cond outside 6 (cond brief 5 0))
+  number-is : jobRefusal set (cyclesOf cycles) p pictures out ≡ threefold misfit outside brief
   unfolding jobRefusal
   number-is =
       ap (λ (z : ℕ). cond misfit 1 (cond many 6 z)) (joined (ltb (mostPictures set) p) (anyWrong (cyclesOf cycles)) 6 (cond brief 5 0))
@@ -68,32 +69,26 @@ module _ (set : CommandSet) (cycles : List ℕ) (p : ℕ) (pictures out : List �
   inside = nor-exactly many _ (not-below _) (nor-exactly (ltb (mostPictures set) p) _ (not-below p) (wrong-no (cyclesOf cycles)))
 
   module _ (a : Count) (left : List ℕ) (f : IsWrittenJob set cycles p pictures out a left) where
-    numbered : (n : ℕ) → n ≢ 0 → Exactly (a ≡ count.Refused n) (cond misfit 1 (cond outside 6 (cond brief 5 0)) ≡ n)
+    numbered : (n : ℕ) → n ≢ 0 → Exactly (a ≡ count.Refused n) (threefold misfit outside brief ≡ n)
     numbered n h = then (count-refused n a h) (same-number (written-number f ∙ number-is))
 
     pub job-1 : Exactly (a ≡ count.Refused 1) (length pictures ≢ 1188 * p)
-    job-1 =
-        then (numbered 1 (λ e. omega arith))
-        (then (here misfit 1 (cond outside 6 (cond brief 5 0)) (nowhere outside 6 (cond brief 5 0) 1 (λ e. omega arith) (nowhere brief 5 0 1 (λ e. omega arith) (λ e. omega arith))))
-        (size-yes (length pictures) p))
+    job-1 = then (numbered 1 (λ e. omega arith)) (then (threefold-1 misfit outside brief) (size-yes (length pictures) p))
 
     pub job-6 : Exactly (a ≡ count.Refused 6) ((length pictures ≡ 1188 * p) × OutsideJob)
     job-6 =
         then (numbered 6 (λ e. omega arith))
-        (then (past misfit 1 (cond outside 6 (cond brief 5 0)) 6 (λ e. omega arith))
+        (then (threefold-6 misfit outside brief)
         (both (size-no (length pictures) p)
-        (then (here outside 6 (cond brief 5 0) (nowhere brief 5 0 6 (λ e. omega arith) (λ e. omega arith)))
-        (or-exactly many _ (below _) (or-exactly (ltb (mostPictures set) p) _ (below p) (wrong-yes (cyclesOf cycles)))))))
+        (or-exactly many _ (below _) (or-exactly (ltb (mostPictures set) p) _ (below p) (wrong-yes (cyclesOf cycles))))))
 
     pub job-5 : Exactly (a ≡ count.Refused 5) ((length pictures ≡ 1188 * p) × (InsideJob × (length out < needed)))
     job-5 =
         then (numbered 5 (λ e. omega arith))
-        (then (past misfit 1 (cond outside 6 (cond brief 5 0)) 5 (λ e. omega arith))
+        (then (threefold-5 misfit outside brief)
         (both (size-no (length pictures) p)
-        (then (past outside 6 (cond brief 5 0) 5 (λ e. omega arith))
         (both inside
-        (then (here brief 5 0 (λ e. omega arith))
-        (subst (λ (m : ℕ). Exactly (brief ≡ true) (length out < m)) (job-length set (cyclesOf cycles) p pictures) (below (length file))))))))
+        (subst (λ (m : ℕ). Exactly (brief ≡ true) (length out < m)) (job-length set (cyclesOf cycles) p pictures) (below (length file))))))
 
     -- pictures that fit, good cycles and an output that is long enough: the file
     pub job-long : length pictures ≡ 1188 * p → InsideJob → needed ≤ length out → (a ≡ count.Bytes (length file)) × (left ≡ over file out)
@@ -105,20 +100,14 @@ module _ (set : CommandSet) (cycles : List ℕ) (p : ℕ) (pictures out : List �
     job-always s i h = job-long s i (omega (arith, i .0, i .1 .0, most-two set))
 
   pub job-only : (n : ℕ) (left : List ℕ) → IsWrittenJob set cycles p pictures out (count.Refused n) left → (n ≡ 1) ⊎ ((n ≡ 6) ⊎ (n ≡ 5))
-  job-only n left f = ⊎-elim
-      inl
-      (λ e. inr (⊎-elim
-      inl
-      (λ d. inr (⊎-elim (λ x. x) (λ z. absurd (written-refused-leaves f .0 z)) (among brief 5 0 n d)))
-      (among outside 6 (cond brief 5 0) n e)))
-      (among misfit 1 (cond outside 6 (cond brief 5 0)) n (written-number f ∙ number-is))
+  job-only n left f = threefold-only misfit outside brief n (written-refused-leaves f .0) (written-number f ∙ number-is)
 
   -- the reader accepts what it writes, and finds in it what was given
   pub job-back : (n : ℕ) (left : List ℕ) → IsWrittenJob set cycles p pictures out (count.Bytes n) left → JobRead set (cyclesOf cycles) p pictures (take n left)
   job-back n left f =
       let e : jobRefusal set (cyclesOf cycles) p pictures out ≡ 0 = sym (written-number f) in
-      let t = past misfit 1 (cond outside 6 (cond brief 5 0)) 0 (λ z. omega arith) .0 (sym number-is ∙ e) in
-      let i = inside .0 (past outside 6 (cond brief 5 0) 0 (λ z. omega arith) .0 (t .1) .0) in
+      let t = threefold-0 misfit outside brief .0 (sym number-is ∙ e) in
+      let i = inside .0 (t .1 .0) in
       let m : n ≡ length file = given-one (rw e at (f .tells)) in
       let whole : take n left ≡ file = ap (take n) (written-all f e .1) ∙ take-at file (drop (length file) out) n (sym m) in
       rw whole (job-read set (cyclesOf cycles) p pictures (size-no (length pictures) p .0 (t .0)) (i .0) (i .1 .0) (wrong-no (cyclesOf cycles) .1 (i .1 .1)))

@@ -2,7 +2,7 @@
 -- never read. The page byte depends only on the page of the stretch before.
 -- Assumes nothing.
 use Prim.Native.Nat.{ℕ, suc, _+_, _≤_, _<_}
-use mathlib.Core.Path.{_≡_, refl}
+use mathlib.Core.Path.{_≡_, refl, ap, _∙_}
 use mathlib.Core.Logic.{_≢_, inl, inr}
 use mathlib.Core.Bool.{true, false}
 use mathlib.Core.Option.{Option, none, some}
@@ -14,7 +14,7 @@ use Rattle.paper.proofs.Cases.{chosen}
 use Rattle.controller.specs.Run.{BusCycle}
 use Rattle.controller.specs.Chip.{pageCycle, dataCycle}
 use Rattle.controller.proofs.Marks.{NoRead, HasWrite}
-use Rattle.streams.specs.Stretch.{Stretch, Place, endOf, onIt, columnBytes, address, emitBy, emit, after}
+use Rattle.streams.specs.Stretch.{Stretch, Place, endOf, OfKind, onIt, columnBytes, address, emitBy, emit, after}
 
 -- ---- what goes ahead of a stretch
 
@@ -93,6 +93,10 @@ emit-no-read before [] = tt
 emit-no-read before (x ∷ xs) =
     no-read-append (address before x) _ (no-read-address before x) (no-read-append (map dataCycle (x .content)) _ (no-read-data (x .content)) (emit-no-read (some (endOf x)) xs))
 
+write-before : (xs ys : List BusCycle) → HasWrite xs → HasWrite (xs ++ ys)
+write-before (x ∷ xs) ys (inl e) = inl e
+write-before (x ∷ xs) ys (inr w) = inr (write-before xs ys w)
+
 write-after : (xs ys : List BusCycle) → HasWrite ys → HasWrite (xs ++ ys)
 write-after [] ys w = w
 write-after (x ∷ xs) ys w = inr (write-after xs ys w)
@@ -104,3 +108,24 @@ data-has-write (b ∷ bs) ys h = inl refl
 pub emit-has-write : (before : Option Place) (x : Stretch) (xs : List Stretch) → 1 ≤ length (x .content) → HasWrite (emit before (x ∷ xs))
 unfolding emitBy
 emit-has-write before x xs h = write-after (address before x) _ (data-has-write (x .content) _ h)
+
+-- no data read, and a data write where there is anything at all
+abbrev pub Writes : List BusCycle → Type 0
+Writes xs = NoRead xs × (xs ≢ [] → HasWrite xs)
+
+-- no bytes, or some
+pub none-or-some : (l : List BusCycle) {X : Type 0} → (l ≡ [] → X) → (l ≢ [] → X) → X
+none-or-some [] f g = f refl
+none-or-some (x ∷ l) f g = g (λ e. let z : _≡_ {A = ℕ} (suc (length l)) 0 = ap length e in omega arith)
+
+pub writes-append : (xs ys : List BusCycle) → Writes xs → Writes ys → Writes (xs ++ ys)
+writes-append xs ys f g = (
+  no-read-append xs ys (f .0) (g .0),
+  λ h. none-or-some xs
+      (λ e. let z : xs ++ ys ≡ ys = rw e in write-after xs ys (g .1 (λ n. h (z ∙ n))))
+      (λ s. write-before xs ys (f .1 s)),
+)
+
+pub emit-writes : (W : ℕ) (before : Option Place) (xs : List Stretch) → OfKind W xs → Writes (emit before xs)
+emit-writes W before [] ok = (emit-no-read before [], λ h. absurd (h (emit-nil before)))
+emit-writes W before (x ∷ xs) ok = (emit-no-read before (x ∷ xs), λ h. emit-has-write before x xs (ok .1))

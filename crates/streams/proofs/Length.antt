@@ -39,11 +39,11 @@ none-differing d c (suc n) k e a b = split (d c)
     (λ h. none-differing d (suc c) n k (omega (arith, rw t at e)) h (omega arith))
     (λ h. let i : k ≡ c = omega arith in rw i t))
 
-pageLength-none : (d : ℕ → Bool) (n : ℕ) → ((k : ℕ) → k < n → d k ≡ false) → pageLength d n ≡ 0
+pub pageLength-none : (d : ℕ → Bool) (n : ℕ) → ((k : ℕ) → k < n → d k ≡ false) → pageLength d n ≡ 0
 unfolding pageLength
 pageLength-none d n h = rw (differing-none d 0 n (λ k l. h k (omega arith)))
 
-none-pageLength : (d : ℕ → Bool) (n k : ℕ) → pageLength d n ≡ 0 → k < n → d k ≡ false
+pub none-pageLength : (d : ℕ → Bool) (n k : ℕ) → pageLength d n ≡ 0 → k < n → d k ≡ false
 unfolding pageLength
 none-pageLength d n k e h = split (eqb (differing d 0 n) 0)
     (λ t. none-differing d 0 n k (eqb-true (differing d 0 n) 0 t) (omega arith) (omega arith))

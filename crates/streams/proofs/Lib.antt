@@ -12,3 +12,7 @@ pub mod Running
 pub mod Updating
 pub mod Redrawing
 pub mod Readers
+pub mod Grouping
+pub mod PageLists
+pub mod AnyOrder
+pub mod Ordering

@@ -10,7 +10,7 @@ use mathlib.Core.List.{List, [], _∷_, _++_, map}
 use native.Mathlib.Omega.{arith}
 use lib.ListN.{length, getD}
 use lib.Dec.{eqb}
-use borrow.Author.Tests.{eqb-true, eqb-false, eq-eqb}
+use borrow.Author.Tests.{eqb-true, eqb-false, eq-eqb, ne-eqb}
 use Rattle.paper.proofs.Cases.{split, less}
 use Rattle.controller.specs.Memory.{cellOf, stored}
 use Rattle.controller.proofs.Cells.{place-one, stored-length, stored-other, stored-same}
@@ -32,14 +32,14 @@ unfoldable pub runsOn : ℕ → List Stretch → List Run
 runsOn p [] = []
 runsOn p (x ∷ xs) = cond (eqb (x .page) p) (runOf x ∷ runsOn p xs) (runsOn p xs)
 
-hits-append : (q k : ℕ) (xs ys : List Stretch) → hits (runsOn q (xs ++ ys)) k ≡ hits (runsOn q xs) k + hits (runsOn q ys) k
+pub hits-append : (q k : ℕ) (xs ys : List Stretch) → hits (runsOn q (xs ++ ys)) k ≡ hits (runsOn q xs) k + hits (runsOn q ys) k
 unfolding runsOn hits
 hits-append q k [] ys = omega arith
 hits-append q k (x ∷ xs) ys = split (eqb (x .page) q)
     (λ t. rw t (omega (arith, hits-append q k xs ys)))
     (λ t. rw t (hits-append q k xs ys))
 
-kind-append : (W : ℕ) (xs ys : List Stretch) → OfKind W xs → OfKind W ys → OfKind W (xs ++ ys)
+pub kind-append : (W : ℕ) (xs ys : List Stretch) → OfKind W xs → OfKind W ys → OfKind W (xs ++ ys)
 kind-append W [] ys v u = u
 kind-append W (x ∷ xs) ys v u = (v .0, v .1, v .2, kind-append W xs ys (v .3) u)
 
@@ -92,7 +92,7 @@ module _ (W : ℕ) where
   Wanted w [] = Unit {0}
   Wanted w (x ∷ xs) = (x .page ≤ 8) × (x .content ≡ wantedBytes W w (x .page) (x .start) (length (x .content))) × Wanted w xs
 
-  wanted-append : (w : List ℕ) (xs ys : List Stretch) → Wanted w xs → Wanted w ys → Wanted w (xs ++ ys)
+  pub wanted-append : (w : List ℕ) (xs ys : List Stretch) → Wanted w xs → Wanted w ys → Wanted w (xs ++ ys)
   wanted-append w [] ys v u = u
   wanted-append w (x ∷ xs) ys v u = (v .0, v .1, wanted-append w xs ys (v .2) u)
 
@@ -116,7 +116,7 @@ module _ (W : ℕ) where
       (λ u. rw (← s) (rw d (storeAll-hit w m (x .page) (x .start) (length (x .content)) k e hp hn l u)))
       (λ u. absurd (omega (arith, in-after (runOf x) k u))))
 
-  paint-hit : (w m : List ℕ) (xs : List Stretch) (q k : ℕ) → length m ≡ 9 * W → OfKind W xs → Wanted w xs → k < W
+  pub paint-hit : (w m : List ℕ) (xs : List Stretch) (q k : ℕ) → length m ≡ 9 * W → OfKind W xs → Wanted w xs → k < W
       → 1 ≤ hits (runsOn q xs) k → getD (paint W m xs) (W * q + k) 0 ≡ shown W w q k
   unfolding paint runsOn hits
   paint-hit w m [] q k e v d hk h = absurd (omega arith)
@@ -128,7 +128,7 @@ module _ (W : ℕ) where
       (λ t. let s : 1 ≤ hits (runsOn q xs) k = rw t at h in absurd (omega arith)))
 
   -- on the picture: a covered cell shows the wanted byte, any other what it showed
-  shown-hit : (w m : List ℕ) (xs : List Stretch) (q k : ℕ) → length m ≡ 9 * W → OfKind W xs → Wanted w xs → k < W
+  pub shown-hit : (w m : List ℕ) (xs : List Stretch) (q k : ℕ) → length m ≡ 9 * W → OfKind W xs → Wanted w xs → k < W
       → 1 ≤ hits (runsOn q xs) k → shown W (paint W m xs) q k ≡ shown W w q k
   shown-hit w m xs q k e v d hk h =
       shown-is W (paint W m xs) q k ∙ ap (cellOf q) (paint-hit w m xs q k e v d hk h) ∙ shown-again W w q k
@@ -139,23 +139,29 @@ module _ (W : ℕ) where
 
   -- ---- the update is such a list, and covers what differs
 
-  page-kind : (w : List ℕ) (p c : ℕ) (rs : List Run) → p ≤ 8 → Fits c W rs → OfKind W (map (stretchOf W w p) rs)
+  pub page-kind : (w : List ℕ) (p c : ℕ) (rs : List Run) → p ≤ 8 → Fits c W rs → OfKind W (map (stretchOf W w p) rs)
   unfolding stretchOf
   page-kind w p c [] hp f = tt
   page-kind w p c (r ∷ rs) hp f =
       let e = wantedBytes-length w p (r .start) (r .size) in
       (omega arith, omega arith, omega arith, page-kind w p (r .start + r .size) rs hp (f .3))
 
-  page-wanted : (w : List ℕ) (p : ℕ) (rs : List Run) → p ≤ 8 → Wanted w (map (stretchOf W w p) rs)
+  pub page-wanted : (w : List ℕ) (p : ℕ) (rs : List Run) → p ≤ 8 → Wanted w (map (stretchOf W w p) rs)
   unfolding stretchOf
   page-wanted w p [] hp = tt
   page-wanted w p (r ∷ rs) hp =
       (hp, ap (wantedBytes W w p (r .start)) (sym (wantedBytes-length w p (r .start) (r .size))), page-wanted w p rs hp)
 
-  page-hits : (w : List ℕ) (p k : ℕ) (rs : List Run) → hits (runsOn p (map (stretchOf W w p) rs)) k ≡ hits rs k
+  pub page-hits : (w : List ℕ) (p k : ℕ) (rs : List Run) → hits (runsOn p (map (stretchOf W w p) rs)) k ≡ hits rs k
   unfolding stretchOf runsOn hits
   page-hits w p k [] = refl
   page-hits w p k (r ∷ rs) = rw (eq-eqb p p refl) (rw (wantedBytes-length w p (r .start) (r .size)) (omega (arith, page-hits w p k rs)))
+
+  -- on no other page
+  pub page-misses : (w : List ℕ) (p q k : ℕ) (rs : List Run) → p ≢ q → hits (runsOn q (map (stretchOf W w p) rs)) k ≡ 0
+  unfolding stretchOf runsOn hits
+  page-misses w p q k [] h = refl
+  page-misses w p q k (r ∷ rs) h = rw (ne-eqb p q h) (page-misses w p q k rs h)
 
   module _ (r w : List ℕ) where
     from-kind : (p n : ℕ) → p + n ≤ 9 → OfKind W (workFrom W r w p n)

@@ -19,7 +19,7 @@ use Rattle.streams.specs.Stretch.{onIt, address, emitBy}
 use Rattle.streams.specs.Update.{Run, joins, join, joinIf, runs, wantedBytes, updateStream}
 use Rattle.streams.specs.Redraw.{wholePage, wholePages, redraw, redrawStream}
 use Rattle.streams.specs.Walk.{walkPages}
-use Rattle.streams.specs.Shape.{Equal, Edge, Tidy, groups, pageGroup, pageCells, iconCells}
+use Rattle.streams.specs.Shape.{Equal, Edge, Tidy, group, groups, pageGroup, pageCells, iconCells}
 use Rattle.streams.proofs.Runs.{joins-far}
 use Rattle.streams.proofs.Walking.{page-walk, update-walk}
 
@@ -78,7 +78,7 @@ module _ (W : ℕ) (r w : List ℕ) where
   page-tidy p = runs-tidy (differs W r w p) 0 W W (omega arith)
 
   groups-walk : (p n : ℕ) → groups W r w p n ≡ walkPages W r w p n
-  unfolding groups walkPages
+  unfolding groups group walkPages
   groups-walk p zero = refl
   groups-walk p (suc n) = rw (page-walk W r w none p tt, groups-walk (suc p) n)
 

@@ -29,7 +29,7 @@ use Rattle.streams.proofs.Running.{Along, along-take, along-end, along-
 -- ---- what each byte of the update keeps
 
 -- nine pages, and every cell recorded or wanted
-abbrev Kept : ℕ → List ℕ → List ℕ → List ℕ → Type 0
+abbrev pub Kept : ℕ → List ℕ → List ℕ → List ℕ → Type 0
 Kept W r w m = (length m ≡ 9 * W) × Between W r w m
 
 kept-write : (W : ℕ) (r w m : List ℕ) (p c : ℕ) → p ≤ 8 → c < W → Kept W r w m → Kept W r w (stored W m p c (shown W w p c))
@@ -63,7 +63,7 @@ module _ {W : ℕ} (C : Chip W) where
     kept-data p c zero hp hc = tt
     kept-data p c (suc n) hp hc = (λ m k. kept-write W r w m p c hp (omega arith) k, kept-data p (suc c) n hp (omega arith))
 
-    kept-all : (xs : List Stretch) → OfKind W xs → Wanted W w xs → SafeAll C (Kept W r w) xs
+    pub kept-all : (xs : List Stretch) → OfKind W xs → Wanted W w xs → SafeAll C (Kept W r w) xs
     kept-all [] ok wd = tt
     kept-all (x ∷ xs) ok wd =
         (rw (wd .1) (kept-data (x .page) (x .start) (length (x .content)) (wd .0) (ok .2)), kept-all xs (ok .3) (wd .2))

@@ -36,10 +36,14 @@ abbrev pub Tidy : (ℕ → Bool) → ℕ → ℕ → List Run → Type 0
 Tidy d c e [] = Equal d c e
 Tidy d c e (r ∷ rs) = Edge d c r × Beyond (r .start + r .size + 3) rs × Tidy d (r .start + r .size) e rs
 
--- the cycles of the n pages from p on, each page's work as if nothing came before
+-- a page's group: its work as if nothing came before, so that it begins with its page byte
+unfoldable pub group : ℕ → List ℕ → List ℕ → ℕ → List BusCycle
+group W recorded wanted p = emit none (pageWork W recorded wanted p)
+
+-- the groups of the n pages from p on, one after the other
 unfoldable pub groups : ℕ → List ℕ → List ℕ → ℕ → ℕ → List BusCycle
 groups W recorded wanted p zero = []
-groups W recorded wanted p (suc n) = emit none (pageWork W recorded wanted p) ++ groups W recorded wanted (suc p) n
+groups W recorded wanted p (suc n) = group W recorded wanted p ++ groups W recorded wanted (suc p) n
 
 -- a whole page of a redraw: its page byte, 10 and 00 for column 0, and its cells as data
 abbrev pub pageGroup : ℕ → List ℕ → List BusCycle

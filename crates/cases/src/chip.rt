@@ -1,18 +1,18 @@
 // The controller: each instruction; page 9, status, the reset pin, what makes no cycle, and E2 once more. A line for each case:
 // its cycles with what they answer, then every register.
 use crate::buffers::zeros;
+use crate::print::byte;
+use crate::print::flag;
+use crate::print::line;
+use crate::print::pair;
+use crate::print::refused;
+use crate::print::told;
+use crate::print::word;
 use controller::cycle::Answer;
 use controller::cycle::cycle;
 use controller::cycle::cycle_ks0717;
 use instructions::added::CommandSet;
 use instructions::instruction::Awaited;
-use print::byte;
-use print::flag;
-use print::line;
-use print::pair;
-use print::refused;
-use print::told;
-use print::word;
 use registers::Beside;
 use registers::Column;
 use registers::ModifyRead;

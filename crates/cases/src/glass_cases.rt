@@ -2,6 +2,11 @@
 ghost use Prim.Native.Nat.{_+_, _<_, _≤_};
 ghost use lib.ListN.{length};
 use crate::buffers::zeros;
+use crate::print::byte;
+use crate::print::line;
+use crate::print::number;
+use crate::print::refused;
+use crate::print::word;
 use glass::frame::Shown;
 use glass::frame::frame;
 use glass::power::PowerState;
@@ -9,11 +14,6 @@ use glass::power::Powered;
 use glass::power::power_state;
 use glass::voltage::Voltage;
 use glass::voltage::v0;
-use print::byte;
-use print::line;
-use print::number;
-use print::refused;
-use print::word;
 use registers::Registers;
 use registers::start::power_up;
 

@@ -4,6 +4,7 @@ mod chip;
 mod glass_cases;
 mod ks0717;
 mod ks0759;
+mod print;
 mod recording;
 mod streams;
 

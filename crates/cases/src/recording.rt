@@ -1,12 +1,12 @@
 // The recorder: texts that are read, good and bad, and what its writers refuse.
 use crate::buffers::zeros;
+use crate::print::byte;
+use crate::print::line;
+use crate::print::number;
+use crate::print::refused;
+use crate::print::word;
 use crate::streams::answer;
 use instructions::added::CommandSet;
-use print::byte;
-use print::line;
-use print::number;
-use print::refused;
-use print::word;
 use recorder::job::write_job;
 use recorder::text::Lines;
 use recorder::text::read_text;

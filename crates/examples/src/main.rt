@@ -98,6 +98,7 @@ fn good() {
     example(b"page-nine.job");
     example(b"refused.job");
     example(b"update.job");
+    example(b"page-first.job");
     example(b"screen.job");
     example(b"corners.job");
     example(b"unwritten.job");

@@ -19,16 +19,13 @@ use Rattle.streams.specs.Stretch.{onIt, address, emitBy}
 use Rattle.streams.specs.Update.{joins, join, joinIf, runs, wantedBytes, stretchOf, pageWork, workFrom, update, updateStream}
 use Rattle.streams.specs.Length.{differing, gaps, gapCost, pageLength, lengthFrom, updateLength}
 use Rattle.streams.proofs.Length.{update-length, redraw-length}
+use Rattle.streams.proofs.Grouping.{no-length}
 use Rattle.figures.specs.Figures.{zeros, icons, zeros0717, Figures0717, Figures}
 
 -- ---- the two figures of 0 bytes
 
-no-bytes : (s : List BusCycle) → length s ≡ 0 → s ≡ []
-no-bytes [] e = refl
-no-bytes (x ∷ s) e = absurd (omega arith)
-
 no-update : (recorded wanted : List ℕ) → updateLength 132 recorded wanted ≡ 0 → updateStream 132 recorded wanted ≡ []
-no-update recorded wanted e = no-bytes (updateStream 132 recorded wanted) (update-length 132 recorded wanted ∙ e)
+no-update recorded wanted e = no-length (updateStream 132 recorded wanted) (update-length 132 recorded wanted ∙ e)
 
 equal-0 : updateLength 132 zeros zeros ≡ 0
 unfolding cellOf shown differs differing gaps gapCost pageLength lengthFrom updateLength

@@ -3,14 +3,13 @@
 use crate::play::play;
 use crate::play::same;
 use crate::play::stands;
+use crate::say::say;
+use crate::say::say_refused;
+use crate::say::words;
 use planner::count::Count;
 use planner::group::page_group;
 use planner::length::update_length;
 use planner::update::update;
-use print::line;
-use print::number;
-use print::refused;
-use print::word;
 use registers::Registers;
 use registers::start::power_up;
 
@@ -38,8 +37,8 @@ fn memory() -> [u8; 1188] {
 
 pub(crate) fn told(count: Count) {
     match count {
-        Count::Bytes(n) => number(n),
-        Count::Refused(n) => refused(n),
+        Count::Bytes(n) => say(b" ", n),
+        Count::Refused(n) => say_refused(n),
     }
 }
 
@@ -51,11 +50,11 @@ fn send(registers: Registers, memory: &mut [u8], page: usize) -> Registers {
     let mut kinds = [0; 135];
     match page_group(&before, &after, page, &mut out, &mut kinds) {
         Count::Bytes(n) => {
-            number(n);
+            say(b" ", n);
             play(registers, memory, &out, &kinds, n)
         }
         Count::Refused(n) => {
-            refused(n);
+            say_refused(n);
             registers
         }
     }
@@ -71,16 +70,15 @@ fn updated(memory: &mut [u8]) {
         Count::Bytes(n) => {
             play(power_up(), memory, &out, &kinds, n);
         }
-        Count::Refused(n) => refused(n),
+        Count::Refused(n) => say_refused(n),
     }
 }
 
 fn heading(first: usize, second: usize, third: usize) {
-    word(b"pages");
-    number(first);
-    number(second);
-    number(third);
-    word(b": bytes");
+    say(b"pages ", first);
+    say(b" ", second);
+    say(b" ", third);
+    words(b": bytes");
 }
 
 fn send_three(memory: &mut [u8], first: usize, second: usize, third: usize) -> Registers {
@@ -97,16 +95,15 @@ fn in_order(first: usize, second: usize, third: usize) {
     updated(&mut whole);
     same(&groups, &whole);
     stands(registers);
-    line();
+    words(b"\n");
 }
 
 pub(crate) fn three_orders() {
     let before = recorded();
     let after = wanted();
-    word(b"the update has");
+    words(b"the update has");
     told(update_length(&before, &after));
-    word(b" bytes");
-    line();
+    words(b" bytes\n");
     in_order(0, 3, 8);
     in_order(8, 3, 0);
     in_order(3, 8, 0);
@@ -117,13 +114,12 @@ pub(crate) fn too_few() {
     in_order(8, 5, 3);
 }
 
-// No page differs: no group, nothing is sent, and page and column stay.
+// No page differs: there is no group, and no output is needed.
 pub(crate) fn equal_pictures() {
     let picture = recorded();
     let mut none: [u8; 0] = [];
     let mut kinds: [u8; 0] = [];
-    word(b"equal pictures, outputs of 0:");
+    words(b"equal pictures, outputs of 0:");
     told(page_group(&picture, &picture, 3, &mut none, &mut kinds));
-    word(b" bytes");
-    line();
+    words(b" bytes\n");
 }

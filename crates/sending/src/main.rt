@@ -2,6 +2,7 @@
 mod groups;
 mod play;
 mod refusals;
+mod say;
 
 fn main() {
     groups::three_orders();

@@ -1,12 +1,12 @@
 // A stream played on the chip, two memories compared, and where the chip stands.
+use crate::say::say;
+use crate::say::say_refused;
+use crate::say::words;
 use bus::run::Ran;
 use bus::run::run;
-use print::byte;
-use print::refused;
-use print::word;
 use registers::Registers;
 
-// One cycle; where the cycle is refused its number is printed.
+// One cycle. Where it is refused its number is printed, which no group should come to.
 fn turn(registers: Registers, memory: &mut [u8], kind: u8, value: u8) -> Registers {
     let cycle = [kind, value];
     let mut numbers = [0; 1];
@@ -24,12 +24,12 @@ fn turn(registers: Registers, memory: &mut [u8], kind: u8, value: u8) -> Registe
     ) {
         Ran::After(after) => {
             if numbers[0] != 0 {
-                refused(numbers[0]);
+                say_refused(numbers[0]);
             }
             after
         }
         Ran::Refused(number) => {
-            refused(number);
+            say_refused(number);
             registers
         }
     }
@@ -74,15 +74,13 @@ fn equal(one: &[u8], other: &[u8]) -> bool {
 // Whether two memories are the same byte for byte.
 pub(crate) fn same(one: &[u8], other: &[u8]) {
     if equal(one, other) {
-        word(b", the update's memory");
+        words(b", the update's memory");
     } else {
-        word(b", another memory");
+        words(b", another memory");
     }
 }
 
 pub(crate) fn stands(registers: Registers) {
-    word(b", page");
-    byte(registers.page);
-    word(b" column");
-    byte(registers.column.0);
+    say(b", page ", registers.page as usize);
+    say(b" column ", registers.column.0 as usize);
 }

@@ -2,25 +2,21 @@
 use crate::groups::recorded;
 use crate::groups::told;
 use crate::groups::wanted;
+use crate::say::say;
+use crate::say::words;
 use planner::group::page_group;
 use planner::group::page_group_ks0717;
-use print::line;
-use print::number;
-use print::word;
 
 // A page, into outputs as they are lent.
 fn into(page: usize, out: &mut [u8], kinds: &mut [u8]) {
     let before = recorded();
     let after = wanted();
-    word(b"page");
-    number(page);
-    word(b" into");
-    number(out.len());
-    word(b" and");
-    number(kinds.len());
-    word(b":");
+    say(b"page ", page);
+    say(b" into ", out.len());
+    say(b" and ", kinds.len());
+    words(b":");
     told(page_group(&before, &after, page, out, kinds));
-    line();
+    words(b"\n");
 }
 
 // Page 8 has a group, page 9 none: 6, before 5.
@@ -46,9 +42,9 @@ pub(crate) fn room() {
 fn sized(name: &[u8], before: &[u8], after: &[u8]) {
     let mut out = [0; 135];
     let mut kinds = [0; 135];
-    word(name);
+    words(name);
     told(page_group(before, after, 9, &mut out, &mut kinds));
-    line();
+    words(b"\n");
 }
 
 // Either picture of another size: 1, before 6.
@@ -66,11 +62,11 @@ pub(crate) fn second_chip() {
     let after = [255; 900];
     let mut out = [0; 103];
     let mut kinds = [0; 103];
-    word(b"the KS0717, page 4, every column differs:");
+    words(b"the KS0717, page 4, every column differs:");
     told(page_group_ks0717(&before, &after, 4, &mut out, &mut kinds));
-    line();
+    words(b"\n");
     let other = recorded();
-    word(b"the KS0717 with a picture of 1,188:");
+    words(b"the KS0717 with a picture of 1,188:");
     told(page_group_ks0717(&before, &other, 4, &mut out, &mut kinds));
-    line();
+    words(b"\n");
 }

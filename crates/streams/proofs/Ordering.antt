@@ -53,7 +53,7 @@ drawnAll-ends W v (x ∷ xs) = drawnAll-ends W (drawn W v x) xs
 -- ---- all groups
 
 module _ {W : ℕ} (C : Chip W) (r w : List ℕ) where
-  open Chip C using (State, view, Ready, step, number)
+  open Chip C using (State, view, Ready, step)
 
   pub order-goes : (order : List ℕ) (s : State) → Paged order → Ready s → Kept W r w (view s .memory)
       → Goes C (Holds C (Kept W r w) (view s .rest)) s (groupsIn W r w order) (drawnAll W (view s) (workIn W r w order))
@@ -120,7 +120,7 @@ module _ (W : ℕ) (r w : List ℕ) (p : ℕ) (at : Place) where
 -- ---- right
 
 module _ {W : ℕ} (C : Chip W) (s : C .State) (r w : List ℕ) (recorded : Recorded C s r) where
-  open Chip C using (State, view, step)
+  open Chip C using (view, step)
 
   -- any pages, in any order
   module _ (order : List ℕ) (paged : Paged order) where

@@ -1,5 +1,6 @@
--- What the promises fix, for any chip whose sheet makes sense. Two results that a promise admits are equal, out-parameters and lent bytes included, since the promise of
--- the crate below fixes its answer; each call answers exactly the number named here, and 0 exactly if nothing is refused.
+-- What the promises fix, for any chip whose sheet makes sense. Two results that a promise admits are equal, out-parameters and lent
+-- bytes included, since the promise of the crate below fixes its answer; each call answers exactly the number named here, and 0 exactly
+-- if nothing is refused.
 -- Assumes nothing.
 use Prim.Native.Nat.{ℕ, zero, suc, _+_, _*_, _≤_, _<_}
 use mathlib.Core.Path.{_≡_, _∙_, refl, ap, sym, subst}

@@ -3,15 +3,12 @@
 -- Assumes nothing.
 use Prim.Native.Nat.{ℕ}
 use mathlib.Core.Path.{_≡_, _∙_, refl}
-use mathlib.Core.List.{List, [], _∷_}
-use native.Mathlib.Omega.{arith}
-use lib.ListN.{length}
+use mathlib.Core.List.{List, []}
 use Rattle.instructions.specs.Read.{classOf, roomIn, readBy, readFirst}
 use Rattle.registers.specs.Beside.{outsideBeside}
 use Rattle.registers.specs.Registers.{outside}
 use Rattle.controller.specs.Memory.{cellOf, isCell, stored, loaded, advanced}
 use Rattle.controller.specs.Cycle.{written, status, carried, kept, refusal, answer, memoryAfter}
-use Rattle.controller.specs.Run.{BusCycle}
 use Rattle.glass.specs.Dot.{lineOf}
 use Rattle.glass.specs.Voltage.{numerator, numerator0717}
 use Rattle.streams.specs.Picture.{shown, differs}

@@ -1,5 +1,5 @@
--- What update, page_group and redraw answer: refused with a number, or given. The code's tests are those of the definitions, since the length
--- that it knows is the stream's.
+-- What update, page_group and redraw answer: refused with a number, or given. The code's tests are those of the definitions, since the
+-- length that it knows is the stream's.
 -- Assumes nothing.
 use Prim.Native.Nat.{ℕ, _+_, _*_, _≤_, _<_}
 use mathlib.Core.Path.{_≡_, refl, sym, ap, _∙_}

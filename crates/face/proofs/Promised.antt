@@ -4,7 +4,6 @@
 -- Assumes nothing.
 use Prim.Native.Nat.{ℕ, zero, suc, _+_, _*_, _≤_, _<_}
 use mathlib.Core.Path.{_≡_, _∙_, refl, ap, sym, subst}
-use mathlib.Core.Logic.{_≢_, inl, inr, ⊎-elim}
 use mathlib.Core.Bool.{false, cond, not, _&&_, _||_}
 use mathlib.Core.Option.{Option, none, some}
 use mathlib.Core.List.{List}
@@ -17,7 +16,7 @@ use Rattle.paper.specs.Told.{Told, given, refused}
 use Rattle.paper.specs.Sheet.{Sensible}
 use Rattle.paper.specs.declared.sheet.Sheet.{Sheet}
 use Rattle.paper.specs.Answers.{leftBy}
-use Rattle.paper.proofs.Cases.{split, less}
+use Rattle.paper.proofs.Cases.{split}
 use Rattle.paper.proofs.Exactly.{Exactly, then, both, same-number, past, only}
 use Rattle.paper.proofs.Either.{or-left, or-right}
 use Rattle.paper.proofs.Answering.{answers-one, if-split, if-both, test-number, number-number}
@@ -43,13 +42,11 @@ use Rattle.streams.specs.Length.{pageLength, updateLength}
 use Rattle.planner.specs.Pictures.{misfit}
 use Rattle.planner.specs.First.{toldFound}
 use Rattle.planner.specs.Count.{toldCount}
-use Rattle.planner.specs.Sent.{updateRefusal, redrawRefusal, IsUpdate}
+use Rattle.planner.specs.Sent.{updateRefusal, redrawRefusal}
 use Rattle.planner.specs.Group.{groupRefusal}
-use Rattle.planner.specs.declared.count.Count.{Count}
-use Rattle.planner.specs.declared.count.Count.the-variants as count
-use Rattle.planner.proofs.Exactly.{RightSize, ShortOutput, wrong-size, right-size}
+use Rattle.planner.proofs.Exactly.{RightSize, LongOutput as Room, wrong-size, right-size}
 use Rattle.planner.proofs.Scanning.{first-given}
-use Rattle.planner.proofs.Promised.{first-one, first-1, length-one, update-one, update-1, update-5, update-only, group-one, group-0 as group-given, redraw-one, redraw-0 as redraw-given}
+use Rattle.planner.proofs.Promised.{first-one, first-1, length-one, update-one, update-0 as update-given, group-one, group-0 as group-given, redraw-one, redraw-0 as redraw-given}
 use Rattle.state.specs.Packed.{flagByte, packed, unpacked, awaitedOf}
 use Rattle.state.specs.Unfit.{unfit, unfitNumber}
 use Rattle.face.specs.Chip.{PowerUpOut, CycleOut, FrameOut, PowerOut, VoltageOut, VoltageOut0717}
@@ -243,24 +240,6 @@ module _ (k : Sheet) (number value byte : ℕ) where
 
 -- ---- pictures
 
--- both outputs have room for so many bytes
-abbrev pub Room : ℕ → List ℕ → List ℕ → Type 0
-Room need out kinds = (need ≤ length out) × (need ≤ length kinds)
-
-room : (need : ℕ) (out kinds : List ℕ) → (ShortOutput need out kinds → ⊥) → Room need out kinds
-room need out kinds h = (
-  less (length out) need (λ l. absurd (h (inl l))) (λ l. l),
-  less (length kinds) need (λ l. absurd (h (inr l))) (λ l. l),
-)
-
-no-short : (need : ℕ) (out kinds : List ℕ) → Room need out kinds → ShortOutput need out kinds → ⊥
-no-short need out kinds h (inl l) = omega arith
-no-short need out kinds h (inr l) = omega arith
-
--- an answer that is not refused
-not-so : (n : ℕ) {a : Count} → toldCount a .number ≡ 0 → n ≢ 0 → a ≢ count.Refused n
-not-so n z h e = h (sym (ap (λ a. toldCount a .number) e) ∙ z)
-
 module _ (W : ℕ) (recorded wanted : List ℕ) where
   module _ (before : ℕ × ℕ × ℕ) where
     pub first-out-one : {a b : ℕ × ℕ × ℕ} {r r′ : ℕ} → FirstOut W recorded wanted before a r → FirstOut W recorded wanted before b r′ → (a ≡ b) × (r ≡ r′)
@@ -303,27 +282,9 @@ module _ (W : ℕ) (recorded wanted : List ℕ) where
     pub update-number : {o k : List ℕ} {a r : ℕ} → UpdateOut W recorded wanted out kinds bytes o k a r → r ≡ updateRefusal W recorded wanted out kinds
     update-number f = f .answers .number ∙ ap (λ o. o .number) (f .promised .tells) ∙ number-number (updateRefusal W recorded wanted out kinds) _
 
-    update-given : (a : Count) (o k : List ℕ) → IsUpdate W recorded wanted out kinds a o k
-        → Exactly (toldCount a .number ≡ 0) (RightSize W recorded wanted × Room (updateLength W recorded wanted) out kinds)
-    update-given a o k p = (
-      λ z. split (misfit W recorded || misfit W wanted)
-          (λ t. absurd (not-so 1 z (λ e. omega arith) (update-1 W recorded wanted out kinds a o k p .1 (wrong-size W recorded wanted .0 t))))
-          (λ t. let fit = right-size W recorded wanted .0 t in
-          (fit, room (updateLength W recorded wanted) out kinds (λ h. not-so 5 z (λ e. omega arith) (update-5 W recorded wanted out kinds a o k p .1 (fit, h))))),
-      update-back a o k p,
-    )
-      where
-        update-back : (a : Count) (o k : List ℕ) → IsUpdate W recorded wanted out kinds a o k
-            → RightSize W recorded wanted × Room (updateLength W recorded wanted) out kinds → toldCount a .number ≡ 0
-        update-back (count.Bytes n) o k p h = refl
-        update-back (count.Refused n) o k p h = absurd (⊎-elim
-            (λ e. ⊎-elim (λ q. q (h .0 .0)) (λ q. q (h .0 .1)) (update-1 W recorded wanted out kinds (count.Refused n) o k p .0 (ap count.Refused e)))
-            (λ e. no-short (updateLength W recorded wanted) out kinds (h .1) (update-5 W recorded wanted out kinds (count.Refused n) o k p .0 (ap count.Refused e) .1))
-            (update-only W recorded wanted out kinds n o k p))
-
     pub update-0 : {o k : List ℕ} {a r : ℕ} → UpdateOut W recorded wanted out kinds bytes o k a r
         → Exactly (r ≡ 0) (RightSize W recorded wanted × Room (updateLength W recorded wanted) out kinds)
-    update-0 {o} {k} f = then (same-number (f .answers .number)) (update-given (f .answer) o k (f .promised))
+    update-0 {o} {k} f = then (same-number (f .answers .number)) (update-given W recorded wanted out kinds (f .answer) o k (f .promised))
 
 module _ (W : ℕ) (recorded wanted : List ℕ) (page : ℕ) (out kinds : List ℕ) (bytes : ℕ) where
   pub group-out-one : {o k o′ k′ : List ℕ} {a b r r′ : ℕ} → GroupOut W recorded wanted page out kinds bytes o k a r → GroupOut W recorded wanted page out kinds bytes o′ k′ b r′

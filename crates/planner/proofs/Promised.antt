@@ -18,7 +18,7 @@ use Rattle.paper.specs.Over.{over}
 use Rattle.paper.proofs.Telling.{apart, answerOf, some-one, none-some}
 use Rattle.paper.proofs.Answering.{refused-number}
 use Rattle.paper.proofs.Cases.{split}
-use Rattle.paper.proofs.Exactly.{Exactly, then, both, same-number, below, not-below, here, past, nowhere, among}
+use Rattle.paper.proofs.Exactly.{Exactly, then, both, same-number, below, not-below, here, past, nowhere, among, only}
 use Rattle.paper.proofs.Threefold.{threefold, threefold-1, threefold-6, threefold-5, threefold-0, threefold-only}
 use Rattle.controller.specs.Run.{BusCycle}
 use Rattle.streams.specs.Picture.{shown, differs, Same}
@@ -178,6 +178,15 @@ module _ (W : ℕ) (r w out kinds : List ℕ) where
         (then (past wrong 1 (cond short 5 0) 5 (λ e. omega arith))
         (both (right-size W r w)
         (then (here short 5 0 (λ e. omega arith)) (short-output (updateStream W r w) out kinds (updateLength W r w) (update-length W r w))))))
+
+    -- and with none exactly if both are right
+    pub update-0 : Exactly (toldCount a .number ≡ 0) (RightSize W r w × LongOutput (updateLength W r w) out kinds)
+    unfolding wrong short
+    update-0 =
+        then (same-number update-number)
+        (then (past wrong 1 (cond short 5 0) 0 (λ e. omega arith))
+        (both (right-size W r w)
+        (then (only short 5 (λ e. omega arith)) (long-output (updateStream W r w) out kinds (updateLength W r w) (update-length W r w)))))
 
   pub update-only : (n : ℕ) (o k : List ℕ) → IsUpdate W r w out kinds (count.Refused n) o k → (n ≡ 1) ⊎ (n ≡ 5)
   update-only n o k f = ⊎-elim

@@ -158,6 +158,36 @@ static void groups(void)
     same("page_group", r1 == r2 && n1 == n2 && !memcmp(o1, o2, ROOM) && !memcmp(k1, k2, ROOM));
 }
 
+/* cycles on the model's chip: whether none was refused */
+static int played(struct model_registers *r, uint8_t *memory, const uint8_t *out, const uint8_t *kinds, size_t n)
+{
+    uint8_t flag, byte, fresh, refused = 0;
+    for (size_t i = 0; i < n; i++) refused |= MODEL(cycle)(r, memory, N, kinds[i], out[i], &flag, &byte, &fresh);
+    return !refused;
+}
+
+/* order 10's own sentence: the library's groups of all pages, in any order, on the model's chip, beside the model's update there. The
+   same memory to the byte, page 8's other bits too, and as many bytes; page and column of the last group, or as they were */
+static void orders(void)
+{
+    static uint8_t a[N], b[N], m1[N], m2[N], out[ROOM], kinds[ROOM];
+    size_t pages[9], n = 0, total = 0, whole = 0, page, column;
+    struct model_registers r1, r2;
+    int ok = 1;
+    pictures(a, b);
+    for (int i = 0; i < N; i++) m1[i] = m2[i] = i < 8 * COLUMNS ? a[i] : (a[i] & 1) | (rnd() & 0xFE);
+    MODEL(power_up)(&r1);
+    r1.page = page = below(16), r1.column = column = below(COLUMNS + 1), r2 = r1;
+    for (size_t i = 0; i < 9; i++) { size_t k = below(i + 1); pages[i] = pages[k], pages[k] = i; }
+    for (size_t i = 0; i < 9; i++) {
+        ok &= !PANEL(page_group)(a, N, b, N, pages[i], out, ROOM, kinds, ROOM, &n) && played(&r1, m1, out, kinds, n);
+        total += n;
+        for (size_t c = 0; c < COLUMNS; c++) if ((a[COLUMNS * pages[i] + c] ^ b[COLUMNS * pages[i] + c]) & (pages[i] == 8 ? 1 : 255)) page = pages[i], column = c + 1;
+    }
+    ok &= !MODEL(update)(a, N, b, N, out, ROOM, kinds, ROOM, &whole) && played(&r2, m2, out, kinds, whole);
+    same("the groups in any order", ok && total == whole && !memcmp(m1, m2, N) && r1.page == page && r1.column == column);
+}
+
 static void frames(void)
 {
     static uint8_t m[ROOM], f1[ROOM], f2[ROOM];
@@ -339,6 +369,7 @@ int COMPARE(long n, long c)
     static const int must[8] = { 1, 2, 3, 4, 5, 6, 9, 13 };
     bytes();
     for (long i = 0; i < n && differences < 5; i++) streams(), groups();
+    for (long i = 0; i < n / 20 && differences < 5; i++) orders();
     for (long i = 0; i < n / 4 && differences < 5; i++) frames(), switches();
 #ifndef KS0717
     for (long i = 0; i < n / 4 && differences < 5; i++) lists();

@@ -56,7 +56,7 @@ module _ (W : ℕ) (r w : List ℕ) where
   groups-rising p zero = refl
   groups-rising p (suc n) = rw (groups-rising (suc p) n)
 
-  pub rising-work : workIn W r w (rising 0 9) ≡ update W r w
+  rising-work : workIn W r w (rising 0 9) ≡ update W r w
   unfolding update
   rising-work = work-rising 0 9
 
@@ -152,7 +152,7 @@ module _ (W : ℕ) (r w : List ℕ) where
   page-good p h =
       let rs = runs (differs W r w p) 0 W in (page-kind W w p 0 rs h (runs-fit (differs W r w p) 0 W W (omega arith)), page-wanted W w p rs h)
 
-  pub order-good : (order : List ℕ) → Paged order → OfKind W (workIn W r w order) × Wanted W w (workIn W r w order)
+  order-good : (order : List ℕ) → Paged order → OfKind W (workIn W r w order) × Wanted W w (workIn W r w order)
   unfolding workIn
   order-good [] h = (tt, tt)
   order-good (p ∷ order) h =

@@ -99,7 +99,7 @@ module _ (W : ℕ) (r w : List ℕ) (p : ℕ) (at : Place) where
   page-end before [] t f h e = absurd (h refl)
   page-end before (x ∷ xs) t f h e = runs-end before 0 x xs t f e
 
-  pub group-ends : (before : Option Place) → group W r w p ≢ [] → some at ≡ after before (pageWork W r w p) → (at .page ≡ p) × Ends W r w p (at .column)
+  group-ends : (before : Option Place) → group W r w p ≢ [] → some at ≡ after before (pageWork W r w p) → (at .page ≡ p) × Ends W r w p (at .column)
   unfolding pageWork
   group-ends before h e =
       let d = differs W r w p in

@@ -222,9 +222,9 @@ uint8_t panel_update(const uint8_t *recorded, size_t recorded_length, const uint
 
 /* One page of that update by itself, so that a page can go ahead of the others: its group, which begins with its page byte, put out as
  * the update is. A page that does not differ has none: *count becomes 0, and no output is needed. The groups of all pages that differ,
- * each sent once in whatever order, leave what the update leaves, with as many bytes; until the last of them is out, the glass shows
- * part of the old picture. PANEL_GROUP_MOST bytes are always enough. This is for panel_update's kind of update. Refuses with 1 (either
- * picture), 6 (page above 8), 5 (out or kinds). */
+ * each sent once in whatever order, leave the memory that the update leaves, with as many bytes; until the last of them is out, the
+ * glass shows part of the old picture. PANEL_GROUP_MOST bytes are always enough. This is for panel_update's kind of update. Refuses with
+ * 1 (either picture), 6 (page above 8), 5 (out or kinds). */
 uint8_t panel_page_group(const uint8_t *recorded, size_t recorded_length, const uint8_t *wanted, size_t wanted_length, size_t page,
                          uint8_t *out, size_t out_length, uint8_t *kinds, size_t kinds_length, size_t *count);
 

@@ -182,7 +182,8 @@ static void orders(void)
     for (size_t i = 0; i < 9; i++) {
         ok &= !PANEL(page_group)(a, N, b, N, pages[i], out, ROOM, kinds, ROOM, &n) && played(&r1, m1, out, kinds, n);
         total += n;
-        for (size_t c = 0; c < COLUMNS; c++) if ((a[COLUMNS * pages[i] + c] ^ b[COLUMNS * pages[i] + c]) & (pages[i] == 8 ? 1 : 255)) page = pages[i], column = c + 1;
+        for (size_t c = 0, at = COLUMNS * pages[i]; c < COLUMNS; c++)
+            if ((a[at + c] ^ b[at + c]) & (pages[i] == 8 ? 1 : 255)) page = pages[i], column = c + 1;
     }
     ok &= !MODEL(update)(a, N, b, N, out, ROOM, kinds, ROOM, &whole) && played(&r2, m2, out, kinds, whole);
     same("the groups in any order", ok && total == whole && !memcmp(m1, m2, N) && r1.page == page && r1.column == column);

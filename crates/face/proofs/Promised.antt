@@ -15,7 +15,7 @@ use Rattle.paper.specs.Refusal.{wrongSize, outOfRange, outsideField}
 use Rattle.paper.specs.Told.{Told, given, refused}
 use Rattle.paper.specs.Sheet.{Sensible}
 use Rattle.paper.specs.declared.sheet.Sheet.{Sheet}
-use Rattle.paper.specs.Answers.{leftBy}
+use Rattle.paper.specs.Answers.{leftBy, Through, same}
 use Rattle.paper.proofs.Cases.{split}
 use Rattle.paper.proofs.Exactly.{Exactly, then, both, same-number, past, only}
 use Rattle.paper.proofs.Either.{or-left, or-right}
@@ -30,6 +30,7 @@ use Rattle.registers.specs.Registers.{outside}
 use Rattle.registers.specs.declared.Registers.{Registers}
 use Rattle.registers.proofs.InRange.{powered-one, powered-inside}
 use Rattle.controller.specs.State.{afterBy}
+use Rattle.controller.specs.Run.{BusCycle}
 use Rattle.controller.specs.Cycle.{outcome, cycleNumber}
 use Rattle.controller.proofs.Keeping.{stays-inside}
 use Rattle.controller.proofs.Unique.{cycled-one, number-exactly}
@@ -38,15 +39,18 @@ use Rattle.glass.specs.Power.{toldPower}
 use Rattle.glass.specs.Voltage.{Fraction, v0Of, toldVoltage, v0Of0717, toldVoltage0717}
 use Rattle.glass.proofs.Promised.{power-one, voltage-one, voltage-0717-one, shown-one}
 use Rattle.streams.specs.Picture.{differs}
+use Rattle.streams.specs.Update.{updateStream}
 use Rattle.streams.specs.Length.{pageLength, updateLength}
+use Rattle.streams.specs.Redraw.{redrawStream}
+use Rattle.streams.specs.Shape.{group}
 use Rattle.planner.specs.Pictures.{misfit}
 use Rattle.planner.specs.First.{toldFound}
 use Rattle.planner.specs.Count.{toldCount}
-use Rattle.planner.specs.Sent.{updateRefusal, redrawRefusal}
+use Rattle.planner.specs.Sent.{Sent, updateRefusal, redrawRefusal}
 use Rattle.planner.specs.Group.{groupRefusal}
 use Rattle.planner.proofs.Exactly.{RightSize, LongOutput as Room, wrong-size, right-size}
 use Rattle.planner.proofs.Scanning.{first-given}
-use Rattle.planner.proofs.Promised.{first-one, first-1, length-one, update-one, update-0 as update-given, group-one, group-0 as group-given, redraw-one, redraw-0 as redraw-given}
+use Rattle.planner.proofs.Promised.{first-one, first-1, length-one, sent-one, update-0 as update-given, group-0 as group-given, redraw-0 as redraw-given}
 use Rattle.state.specs.Packed.{flagByte, packed, unpacked, awaitedOf}
 use Rattle.state.specs.Unfit.{unfit, unfitNumber}
 use Rattle.face.specs.Chip.{PowerUpOut, CycleOut, FrameOut, PowerOut, VoltageOut, VoltageOut0717}
@@ -240,6 +244,21 @@ module _ (k : Sheet) (number value byte : ℕ) where
 
 -- ---- pictures
 
+-- any stream, in both outputs
+abbrev pub SentOut : ℕ → List BusCycle → List ℕ → List ℕ → ℕ → List ℕ → List ℕ → ℕ → ℕ → Type 0
+SentOut number s out kinds bytes out′ kinds′ bytes′ r = Through (λ a. Sent number s out kinds a out′ kinds′) toldCount same bytes bytes′ r
+
+module _ (number : ℕ) (s : List BusCycle) (out kinds : List ℕ) (bytes : ℕ) where
+  sent-out-one : {o k o′ k′ : List ℕ} {a b r r′ : ℕ} → SentOut number s out kinds bytes o k a r → SentOut number s out kinds bytes o′ k′ b r′
+      → (o ≡ o′) × (k ≡ k′) × (a ≡ b) × (r ≡ r′)
+  sent-out-one f g =
+      let p = sent-one (f .promised) (g .promised) in
+      let q = answers-one (ap toldCount (p .0)) (f .answers) (g .answers) in
+      (p .1, p .2, q .0, q .1)
+
+  sent-out-number : {o k : List ℕ} {a r : ℕ} → SentOut number s out kinds bytes o k a r → r ≡ number
+  sent-out-number f = f .answers .number ∙ ap (λ o. o .number) (f .promised .tells) ∙ number-number number _
+
 module _ (W : ℕ) (recorded wanted : List ℕ) where
   module _ (before : ℕ × ℕ × ℕ) where
     pub first-out-one : {a b : ℕ × ℕ × ℕ} {r r′ : ℕ} → FirstOut W recorded wanted before a r → FirstOut W recorded wanted before b r′ → (a ≡ b) × (r ≡ r′)
@@ -274,13 +293,10 @@ module _ (W : ℕ) (recorded wanted : List ℕ) where
   module _ (out kinds : List ℕ) (bytes : ℕ) where
     pub update-out-one : {o k o′ k′ : List ℕ} {a b r r′ : ℕ} → UpdateOut W recorded wanted out kinds bytes o k a r → UpdateOut W recorded wanted out kinds bytes o′ k′ b r′
         → (o ≡ o′) × (k ≡ k′) × (a ≡ b) × (r ≡ r′)
-    update-out-one f g =
-        let p = update-one W recorded wanted (f .promised) (g .promised) in
-        let q = answers-one (ap toldCount (p .0)) (f .answers) (g .answers) in
-        (p .1, p .2, q .0, q .1)
+    update-out-one f g = sent-out-one _ (updateStream W recorded wanted) out kinds bytes f g
 
     pub update-number : {o k : List ℕ} {a r : ℕ} → UpdateOut W recorded wanted out kinds bytes o k a r → r ≡ updateRefusal W recorded wanted out kinds
-    update-number f = f .answers .number ∙ ap (λ o. o .number) (f .promised .tells) ∙ number-number (updateRefusal W recorded wanted out kinds) _
+    update-number f = sent-out-number _ (updateStream W recorded wanted) out kinds bytes f
 
     pub update-0 : {o k : List ℕ} {a r : ℕ} → UpdateOut W recorded wanted out kinds bytes o k a r
         → Exactly (r ≡ 0) (RightSize W recorded wanted × Room (updateLength W recorded wanted) out kinds)
@@ -289,13 +305,10 @@ module _ (W : ℕ) (recorded wanted : List ℕ) where
 module _ (W : ℕ) (recorded wanted : List ℕ) (page : ℕ) (out kinds : List ℕ) (bytes : ℕ) where
   pub group-out-one : {o k o′ k′ : List ℕ} {a b r r′ : ℕ} → GroupOut W recorded wanted page out kinds bytes o k a r → GroupOut W recorded wanted page out kinds bytes o′ k′ b r′
       → (o ≡ o′) × (k ≡ k′) × (a ≡ b) × (r ≡ r′)
-  group-out-one f g =
-      let p = group-one W recorded wanted page (f .promised) (g .promised) in
-      let q = answers-one (ap toldCount (p .0)) (f .answers) (g .answers) in
-      (p .1, p .2, q .0, q .1)
+  group-out-one f g = sent-out-one _ (group W recorded wanted page) out kinds bytes f g
 
   pub group-number : {o k : List ℕ} {a r : ℕ} → GroupOut W recorded wanted page out kinds bytes o k a r → r ≡ groupRefusal W recorded wanted page out kinds
-  group-number f = f .answers .number ∙ ap (λ o. o .number) (f .promised .tells) ∙ number-number (groupRefusal W recorded wanted page out kinds) _
+  group-number f = sent-out-number _ (group W recorded wanted page) out kinds bytes f
 
   pub group-0 : {o k : List ℕ} {a r : ℕ} → GroupOut W recorded wanted page out kinds bytes o k a r
       → Exactly (r ≡ 0) (RightSize W recorded wanted × ((page ≤ 8) × Room (pageLength (differs W recorded wanted page) W) out kinds))
@@ -304,13 +317,10 @@ module _ (W : ℕ) (recorded wanted : List ℕ) (page : ℕ) (out kinds : List �
 module _ (W : ℕ) (wanted : List ℕ) (contrast : ℕ) (out kinds : List ℕ) (bytes : ℕ) where
   pub redraw-out-one : {o k o′ k′ : List ℕ} {a b r r′ : ℕ} → RedrawOut W wanted contrast out kinds bytes o k a r → RedrawOut W wanted contrast out kinds bytes o′ k′ b r′
       → (o ≡ o′) × (k ≡ k′) × (a ≡ b) × (r ≡ r′)
-  redraw-out-one f g =
-      let p = redraw-one W wanted contrast (f .promised) (g .promised) in
-      let q = answers-one (ap toldCount (p .0)) (f .answers) (g .answers) in
-      (p .1, p .2, q .0, q .1)
+  redraw-out-one f g = sent-out-one _ (redrawStream W wanted contrast) out kinds bytes f g
 
   pub redraw-number : {o k : List ℕ} {a r : ℕ} → RedrawOut W wanted contrast out kinds bytes o k a r → r ≡ redrawRefusal W wanted contrast out kinds
-  redraw-number f = f .answers .number ∙ ap (λ o. o .number) (f .promised .tells) ∙ number-number (redrawRefusal W wanted contrast out kinds) _
+  redraw-number f = sent-out-number _ (redrawStream W wanted contrast) out kinds bytes f
 
   pub redraw-0 : {o k : List ℕ} {a r : ℕ} → RedrawOut W wanted contrast out kinds bytes o k a r
       → Exactly (r ≡ 0) ((length wanted ≡ 9 * W) × ((contrast ≤ 63) × Room (4 + 9 * (W + 3)) out kinds))

@@ -39,10 +39,14 @@ use Rattle.planner.specs.declared.count.Count.{Count}
 use Rattle.planner.specs.declared.count.Count.the-variants as count
 use Rattle.planner.proofs.Promised.{sent-refused-leaves}
 use Rattle.controller.specs.Run.{BusCycle}
+use Rattle.streams.specs.Update.{updateStream}
+use Rattle.streams.specs.Redraw.{redrawStream}
+use Rattle.streams.specs.Shape.{group}
 use Rattle.state.specs.Unfit.{unfit}
 use Rattle.face.specs.Chip.{CycledOn, CycleOut, ShownOn, FrameOut, PowerOut, VoltageOut, VoltageOut0717}
 use Rattle.face.specs.Bytes.{ReadOut, WriteOut}
 use Rattle.face.specs.Pictures.{FirstOut, LengthOut, UpdateOut, GroupOut, RedrawOut}
+use Rattle.face.proofs.Promised.{SentOut}
 
 -- ---- each answer is not refused, or gives nothing
 
@@ -134,20 +138,20 @@ sent-leaves : {number : ℕ} {s : List BusCycle} {out kinds o k : List ℕ} (a :
 sent-leaves (count.Bytes n) p h = absurd (h refl)
 sent-leaves (count.Refused n) p h = let e = sent-refused-leaves p in (e .1, e .2)
 
-pub update-refused-leaves : (W : ℕ) (recorded wanted out kinds : List ℕ) (bytes : ℕ) {o k : List ℕ} {bytes′ r : ℕ} → UpdateOut W recorded wanted out kinds bytes o k bytes′ r → r ≢ 0
+stream-leaves : (number : ℕ) (s : List BusCycle) (out kinds : List ℕ) (bytes : ℕ) {o k : List ℕ} {bytes′ r : ℕ} → SentOut number s out kinds bytes o k bytes′ r → r ≢ 0
     → (o ≡ out) × (k ≡ kinds) × (bytes′ ≡ bytes)
-update-refused-leaves W recorded wanted out kinds bytes f h =
+stream-leaves number s out kinds bytes f h =
     let e = sent-leaves (f .answer) (f .promised) (λ z. h (f .answers .number ∙ z)) in
     (e .0, e .1, refusal-leaves count-silent f h)
+
+pub update-refused-leaves : (W : ℕ) (recorded wanted out kinds : List ℕ) (bytes : ℕ) {o k : List ℕ} {bytes′ r : ℕ} → UpdateOut W recorded wanted out kinds bytes o k bytes′ r → r ≢ 0
+    → (o ≡ out) × (k ≡ kinds) × (bytes′ ≡ bytes)
+update-refused-leaves W recorded wanted out kinds bytes f h = stream-leaves _ (updateStream W recorded wanted) out kinds bytes f h
 
 pub group-refused-leaves : (W : ℕ) (recorded wanted : List ℕ) (page : ℕ) (out kinds : List ℕ) (bytes : ℕ) {o k : List ℕ} {bytes′ r : ℕ}
     → GroupOut W recorded wanted page out kinds bytes o k bytes′ r → r ≢ 0 → (o ≡ out) × (k ≡ kinds) × (bytes′ ≡ bytes)
-group-refused-leaves W recorded wanted page out kinds bytes f h =
-    let e = sent-leaves (f .answer) (f .promised) (λ z. h (f .answers .number ∙ z)) in
-    (e .0, e .1, refusal-leaves count-silent f h)
+group-refused-leaves W recorded wanted page out kinds bytes f h = stream-leaves _ (group W recorded wanted page) out kinds bytes f h
 
 pub redraw-refused-leaves : (W : ℕ) (wanted : List ℕ) (contrast : ℕ) (out kinds : List ℕ) (bytes : ℕ) {o k : List ℕ} {bytes′ r : ℕ}
     → RedrawOut W wanted contrast out kinds bytes o k bytes′ r → r ≢ 0 → (o ≡ out) × (k ≡ kinds) × (bytes′ ≡ bytes)
-redraw-refused-leaves W wanted contrast out kinds bytes f h =
-    let e = sent-leaves (f .answer) (f .promised) (λ z. h (f .answers .number ∙ z)) in
-    (e .0, e .1, refusal-leaves count-silent f h)
+redraw-refused-leaves W wanted contrast out kinds bytes f h = stream-leaves _ (redrawStream W wanted contrast) out kinds bytes f h

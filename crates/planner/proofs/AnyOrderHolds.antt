@@ -29,7 +29,7 @@ use Rattle.planner.specs.Group.{groupRefusal}
 use Rattle.planner.specs.Demand3.{Holding, played}
 use Rattle.planner.specs.AnyOrder.{InAnyOrder, Follows, Call, Answered, pagesOf, total, joined}
 use Rattle.planner.proofs.ShutOuts.{bytes-out}
-use Rattle.planner.proofs.Demand3Holds.{records, pin-high, holding, sent-is, written-mark}
+use Rattle.planner.proofs.Demand3Holds.{records, holding, cut-high, sent-is, written-mark}
 
 -- ---- the groups
 
@@ -54,7 +54,7 @@ module _ (k : Sheet) (g : Sensible k) where
         registers = moved (t .registers) r (u .rest) (ap (λ v. v .page) (u .exact)) (ap (λ v. v .column) (u .exact)) (ap (λ v. v .holder) (u .exact)) mark;
         cut = λ n. u .cut n .between;
         cut-accepted = λ n. order-accepted (chipOf k g) s recorded wanted p order (each .pages) n;
-        cut-pin = λ n. let c = u .cut n in pin-high k g (played k r m (take n cycles)) (record { restartable = c .ready .restartable; sized = c .sized });
+        cut-pin = λ n. cut-high k g s (played k r m (take n cycles)) recorded wanted (u .cut n);
       }
 
   -- some of the groups, a page twice too: the premises hold with a record that is as wanted on their pages and as recorded on the others

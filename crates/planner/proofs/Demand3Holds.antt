@@ -28,7 +28,7 @@ use Rattle.controller.proofs.Chips.{chipOf, restartOf, moved, redrawn}
 use Rattle.controller.proofs.Marks.{sent-stale, next-tells}
 use Rattle.streams.specs.Update.{update, updateStream}
 use Rattle.streams.specs.Redraw.{redrawStream}
-use Rattle.streams.specs.Demand.{Recorded, Restarts}
+use Rattle.streams.specs.Demand.{Recorded, Restarts, Cut}
 use Rattle.streams.proofs.Pictures.{same-refl}
 use Rattle.streams.proofs.Painting.{update-kind}
 use Rattle.streams.proofs.Length.{update-length, update-most, redraw-length}
@@ -100,6 +100,10 @@ module _ (k : Sheet) (g : Sensible k) where
     same = h .same;
   }
 
+  -- cut off, a chip is as after a restart at worst
+  pub cut-high : (s t : State) (recorded wanted : List ℕ) → Cut (chipOf k g) s recorded wanted t → PinHigh k (t .registers) (t .memory)
+  cut-high s t recorded wanted c = pin-high t (record { restartable = c .ready .restartable; sized = c .sized })
+
   -- power-up meets the premises: of a redraw, and of an update if the memory as lent is the recorded picture
 
   pub power-up-pin-high : (r : Registers) (m : List ℕ) → PoweredUp k r → length m ≡ 9 * k .width → PinHigh k r m
@@ -134,7 +138,7 @@ module _ (k : Sheet) (g : Sensible k) where
         least = λ xs ok e. omega (arith, n, update-least (chipOf k g) s recorded wanted p xs ok e);
         cut = λ n. update-cut (chipOf k g) s recorded wanted p n .between;
         cut-accepted = λ n. cut-accepted (chipOf k g) s recorded wanted p n;
-        cut-pin = λ n. let c = update-cut (chipOf k g) s recorded wanted p n in pin-high (played k r m (take n cycles)) (record { restartable = c .ready .restartable; sized = c .sized });
+        cut-pin = λ n. cut-high s (played k r m (take n cycles)) recorded wanted (update-cut (chipOf k g) s recorded wanted p n);
       }
 
   pub sent-updates : (r : Registers) (m recorded wanted out kinds : List ℕ) (n : ℕ) (out′ kinds′ : List ℕ) → Holding k r m recorded

@@ -72,7 +72,7 @@ first-one {a = a} {b = b} f g = found-told a b (f .tells ∙ sym (g .tells))
 pub length-one : {W : ℕ} {r w : List ℕ} {a b : Count} → IsLength W r w a → IsLength W r w b → a ≡ b
 length-one {a = a} {b = b} f g = count-told a b (f .tells ∙ sym (g .tells))
 
-sent-one : {number : ℕ} {s : List BusCycle} {out kinds : List ℕ} {a b : Count} {o k o′ k′ : List ℕ}
+pub sent-one : {number : ℕ} {s : List BusCycle} {out kinds : List ℕ} {a b : Count} {o k o′ k′ : List ℕ}
     → Sent number s out kinds a o k → Sent number s out kinds b o′ k′ → (a ≡ b) × (o ≡ o′) × (k ≡ k′)
 sent-one {a = a} {b = b} f g =
     (count-told a b (f .tells ∙ sym (g .tells)), f .bytes ∙ sym (g .bytes), f .kinds-left ∙ sym (g .kinds-left))

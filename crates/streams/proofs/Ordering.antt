@@ -21,8 +21,8 @@ use Rattle.streams.specs.Order.{EachOnce, groupsIn, workIn, Mixed, Last,
 use Rattle.streams.proofs.Pictures.{recorded-between}
 use Rattle.streams.proofs.Runs.{Fits, runs-fit}
 use Rattle.streams.proofs.Painting.{wantedBytes-length, paint-length}
-use Rattle.streams.proofs.Running.{along-take, along-end, along-accepted, Goes, goes-append, Holds, emit-goes, address-lands, drawnAll-memory, drawnAll-rest}
-use Rattle.streams.proofs.Updating.{Kept, kept-all, update-right}
+use Rattle.streams.proofs.Running.{along-end, along-accepted, Goes, goes-append, Holds, emit-goes, address-lands, drawnAll-memory, drawnAll-rest}
+use Rattle.streams.proofs.Updating.{Kept, kept-all, kept-cut, kept-accepted, update-right}
 use Rattle.streams.proofs.Readers.{page-tidy}
 use Rattle.streams.proofs.Grouping.{some-runs}
 use Rattle.streams.proofs.PageLists.{Paged, paged-first, paged-rest}
@@ -129,12 +129,10 @@ module _ {W : ℕ} (C : Chip W) (s : C .State) (r w : List ℕ) (recorded : Reco
 
     -- cut off after any byte
     pub order-cut : (n : ℕ) → Cut C s r w (runBy step s (take n (groupsIn W r w order)))
-    order-cut n =
-        let h = along-end C _ s (take n (groupsIn W r w order)) (along-take C _ s (groupsIn W r w order) (goes .0) n) in
-        record { ready = h .0; sized = h .1 .0; between = h .1 .1; rest = h .2 }
+    order-cut = kept-cut C r w s (groupsIn W r w order) (goes .0)
 
     pub order-accepted : (n : ℕ) → numbersBy step (C .number) s (take n (groupsIn W r w order)) ≡ replicate (length (take n (groupsIn W r w order))) 0
-    order-accepted n = along-accepted C _ s (take n (groupsIn W r w order)) (along-take C _ s (groupsIn W r w order) (goes .0) n)
+    order-accepted = kept-accepted C r w s (groupsIn W r w order) (goes .0)
 
     painted : view (runBy step s (groupsIn W r w order)) .memory ≡ paint W (view s .memory) (workIn W r w order)
     painted = ap (λ v. v .memory) (goes .1 .1) ∙ drawnAll-memory C (workIn W r w order) (view s)

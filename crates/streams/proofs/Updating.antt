@@ -68,6 +68,16 @@ module _ {W : ℕ} (C : Chip W) where
     kept-all (x ∷ xs) ok wd =
         (rw (wd .1) (kept-data (x .page) (x .start) (length (x .content)) (wd .0) (ok .2)), kept-all xs (ok .3) (wd .2))
 
+    -- cycles that keep every cell recorded or wanted all along, cut off after any number of them
+    module _ (s : State) (cycles : List BusCycle) (along : Along C (Holds C (Kept W r w) (view s .rest)) s cycles) where
+      pub kept-cut : (n : ℕ) → Cut C s r w (runBy step s (take n cycles))
+      kept-cut n =
+          let h = along-end C _ s (take n cycles) (along-take C _ s cycles along n) in
+          record { ready = h .0; sized = h .1 .0; between = h .1 .1; rest = h .2 }
+
+      pub kept-accepted : (n : ℕ) → numbersBy step number s (take n cycles) ≡ replicate (length (take n cycles)) 0
+      kept-accepted n = along-accepted C _ s (take n cycles) (along-take C _ s cycles along n)
+
   module _ (s : State) (r w : List ℕ) (recorded : Recorded C s r) where
     -- ---- right: no cycle is refused, the wanted picture is there, exactly this view, and nothing of the rest moved
 
@@ -107,12 +117,10 @@ module _ {W : ℕ} (C : Chip W) where
         (recorded .sized, recorded-between W r w (view s .memory) (recorded .same)) .0
 
     pub update-cut : (n : ℕ) → Cut C s r w (runBy step s (take n (updateStream W r w)))
-    update-cut n =
-        let h = along-end C _ s (take n (updateStream W r w)) (along-take C _ s (updateStream W r w) update-along n) in
-        record { ready = h .0; sized = h .1 .0; between = h .1 .1; rest = h .2 }
+    update-cut = kept-cut r w s (updateStream W r w) update-along
 
     pub cut-accepted : (n : ℕ) → numbersBy step number s (take n (updateStream W r w)) ≡ replicate (length (take n (updateStream W r w))) 0
-    cut-accepted n = along-accepted C _ s (take n (updateStream W r w)) (along-take C _ s (updateStream W r w) update-along n)
+    cut-accepted = kept-accepted r w s (updateStream W r w) update-along
 
   -- ---- updates chain: after whatever leaves a picture, an update of it leaves the next
 

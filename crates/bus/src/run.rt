@@ -12,7 +12,7 @@ use paper::sheet::{Sheet, ks0713};
 use registers::{Registers, outside_range};
 
 // The registers after the cycles, or the number of a refusal.
-#[derive(Drop)]
+#[derive(Clone, Copy)]
 pub enum Ran {
     After(Registers),
     Refused(u8),

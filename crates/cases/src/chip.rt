@@ -109,7 +109,7 @@ fn after(registers: Registers, answer: Answer) -> Registers {
 }
 
 // Which chip a case is played on.
-#[derive(Drop)]
+#[derive(Clone, Copy)]
 pub(crate) enum Chip {
     Ks0713,
     Ks0717,

@@ -18,7 +18,7 @@ fn spotted() -> [u8; 1188] {
 }
 
 // How many bytes of a frame are not 0, and the first of them with its place.
-#[derive(Drop)]
+#[derive(Clone, Copy)]
 struct Lit {
     count: usize,
     first: usize,

@@ -1,4 +1,6 @@
 // Document 01's cases that are run, the orders', and one case for each instruction: the output is compared with `stdout`.
+#![tactic(auto)]
+
 mod buffers;
 mod chip;
 mod glass_cases;

@@ -18,7 +18,7 @@ use registers::{ModifyRead, Registers, outside_range};
 
 // What a cycle answers: the registers after it; the status byte; the registers after it, the byte read and whether it is fresh; or a
 // refusal's number.
-#[derive(Drop)]
+#[derive(Clone, Copy)]
 pub enum Answer {
     Done(Registers),
     Status(u8),

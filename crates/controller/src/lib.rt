@@ -1,4 +1,6 @@
 // The controller seen from its bus: display memory and one cycle.
+#![tactic(auto)]
+
 mod added;
 pub mod cycle;
 mod execute;

@@ -1,5 +1,7 @@
 // Plays each file of data/ and writes its name and its text, and for a good one whether it comes back when it is taken apart and written
 // again: the output is compared with `stdout`.
+#![tactic(auto)]
+
 mod again;
 
 ghost use Rattle.std.specs.Prelude.{◌≡◌, ◌≤◌, length};

@@ -11,7 +11,7 @@ use registers::switch::Switched;
 use state::packed::{State, pack};
 
 // What a number and a value name.
-#[derive(Drop)]
+#[derive(Clone, Copy)]
 pub enum NamedAdded {
     Known(Added),
     Unknown,

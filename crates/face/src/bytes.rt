@@ -11,7 +11,7 @@ use instructions::write::Writing;
 use state::packed::flag_byte;
 
 // What a number and a value name.
-#[derive(Drop)]
+#[derive(Clone, Copy)]
 pub enum Named {
     Known(Instruction),
     Unknown,

@@ -1,5 +1,7 @@
 // What the C faces of both chips share: how an answer of the crates below is told in C. The number of its refusal is answered, 0 for
 // none; a value goes into the parameters that are lent for it, and a refusal leaves them as they were.
+#![tactic(auto)]
+
 pub mod added;
 pub mod bytes;
 pub mod chip;

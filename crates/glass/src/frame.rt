@@ -11,11 +11,11 @@ use paper::sheet::{Sheet, ks0713, ks0717};
 use registers::{Registers, outside_range};
 
 // A segment number, on the glass side.
-#[derive(Drop)]
+#[derive(Clone, Copy)]
 pub struct Segment(pub u8);
 
 // Whether the frame was drawn, or the number of a refusal.
-#[derive(Drop)]
+#[derive(Clone, Copy)]
 pub enum Shown {
     Drawn,
     Refused(u8),

@@ -1,4 +1,6 @@
 // The glass: which dots are lit, the power state, and V0.
+#![tactic(auto)]
+
 pub mod bit;
 mod dot;
 pub mod frame;

@@ -7,7 +7,7 @@ use paper::refusal::OUT_OF_RANGE;
 use paper::sheet::{Sheet, ks0713, ks0717};
 use registers::{Registers, outside_range};
 
-#[derive(Drop)]
+#[derive(Clone, Copy)]
 pub enum PowerState {
     Normal,
     Sleep,
@@ -15,7 +15,7 @@ pub enum PowerState {
 }
 
 // The power state, or the number of a refusal.
-#[derive(Drop)]
+#[derive(Clone, Copy)]
 pub enum Powered {
     State(PowerState),
     Refused(u8),

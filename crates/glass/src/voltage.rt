@@ -11,14 +11,14 @@ const RATIOS: [u32; 8] = [190, 219, 255, 302, 361, 435, 529, 648];
 const RATIOS_KS0717: [u32; 8] = [30, 35, 40, 45, 50, 54, 59, 64];
 
 // Millivolts as a number of fifteenths, or the number of a refusal.
-#[derive(Drop)]
+#[derive(Clone, Copy)]
 pub enum Voltage {
     Fifteenths(u32),
     Refused(u8),
 }
 
 // Millivolts as a number of twenty-sevenths, or the number of a refusal.
-#[derive(Drop)]
+#[derive(Clone, Copy)]
 pub enum Voltage0717 {
     TwentySevenths(u32),
     Refused(u8),

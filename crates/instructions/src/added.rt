@@ -8,13 +8,13 @@ use crate::write::{Writing, field};
 use paper::refusal::{OUT_OF_RANGE, UNASSIGNED};
 
 // Which command set is in force.
-#[derive(Drop)]
+#[derive(Clone, Copy)]
 pub enum CommandSet {
     Old,
     New,
 }
 
-#[derive(Drop)]
+#[derive(Clone, Copy)]
 pub enum Added {
     // 44-47: the next instruction byte is initial COM0, and that byte.
     Com0Next,
@@ -30,7 +30,7 @@ pub enum Added {
 }
 
 // What a byte is read as, or the number of the refusal.
-#[derive(Drop)]
+#[derive(Clone, Copy)]
 pub enum AddedReading {
     ReadAs(Added),
     Unread(u8),

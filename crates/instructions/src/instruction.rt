@@ -1,7 +1,7 @@
 // The instructions, one for each row of document 01's table and one for each second byte, and which second byte is awaited.
 
 // Which second byte the chip awaits: none, one of the old command set's, or one of the new one's (`added.rt`).
-#[derive(Drop)]
+#[derive(Clone, Copy)]
 pub enum Awaited {
     Nothing,
     Contrast,
@@ -11,7 +11,7 @@ pub enum Awaited {
     Inversion,
 }
 
-#[derive(Drop)]
+#[derive(Clone, Copy)]
 pub enum Instruction {
     // 00-0F, 10-1F: low and high four bits of column.
     ColumnLow(u8),

@@ -9,7 +9,7 @@ use paper::refusal::{OUT_OF_RANGE, UNASSIGNED};
 use paper::sheet::{Sheet, ks0713, ks0717};
 
 // What a byte is read as, or the number of the refusal.
-#[derive(Drop)]
+#[derive(Clone, Copy)]
 pub enum Reading {
     ReadAs(Instruction),
     Unread(u8),

@@ -8,7 +8,7 @@ use paper::refusal::OUTSIDE_FIELD;
 use paper::sheet::{Sheet, ks0713, ks0717};
 
 // What an instruction is written as, or the number of the refusal.
-#[derive(Drop)]
+#[derive(Clone, Copy)]
 pub enum Writing {
     WrittenAs(u8),
     Unwritten(u8),

@@ -7,7 +7,7 @@ use instructions::added::CommandSet;
 use paper::refusal::{SHORT_JOB, WRONG_CYCLE, WRONG_HEADER};
 
 // A good job: how many cycles and how many pictures it has, and the command set that it powers up in.
-#[derive(Drop)]
+#[derive(Clone, Copy)]
 pub struct Job {
     pub cycles: usize,
     pub pictures: usize,
@@ -15,7 +15,7 @@ pub struct Job {
 }
 
 // A good job, or the number of a refusal.
-#[derive(Drop)]
+#[derive(Clone, Copy)]
 pub enum Header {
     Good(Job),
     Refused(u8),

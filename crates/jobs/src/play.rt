@@ -18,14 +18,14 @@ use registers::Registers;
 use registers::start::power_up_in;
 
 // The length of the text, or the number of a refusal.
-#[derive(Drop)]
+#[derive(Clone, Copy)]
 pub enum Played {
     Text(usize),
     Refused(u8),
 }
 
 // After a turn: the registers, and the place in the output.
-#[derive(Drop)]
+#[derive(Clone, Copy)]
 struct After {
     registers: Registers,
     at: usize,

@@ -1,5 +1,7 @@
 // Prints the instruction set from the table of classes: a line for each row of document 01's table, in the order of the bytes, then
 // how many bytes are assigned.
+#![tactic(auto)]
+
 mod count;
 mod row;
 mod words;

@@ -1,5 +1,7 @@
 // The KS0717's C face: the calls of the crates below, over lent bytes. Each answers the number of its refusal, 0 for none; what it gives
 // goes through the parameters that it is lent, and a refusal leaves them as they were. No call has memory of its own.
+#![tactic(auto)]
+
 pub mod added;
 pub mod bytes;
 pub mod chip;

@@ -2,7 +2,7 @@
 ghost use Rattle.std.specs.Prelude.{◌≡◌};
 ghost use Rattle.paper.specs.Sheet.{sheet0713, sheet0717};
 
-#[derive(Drop)]
+#[derive(Clone, Copy)]
 pub struct Sheet {
     // Columns of the memory, and segments of the glass.
     pub width: usize,

@@ -1,5 +1,5 @@
 // A number of bytes, or the number of a refusal.
-#[derive(Drop)]
+#[derive(Clone, Copy)]
 pub enum Count {
     Bytes(usize),
     Refused(u8),

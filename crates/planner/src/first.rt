@@ -12,7 +12,7 @@ use paper::refusal::WRONG_SIZE;
 use paper::sheet::{ks0713, ks0717};
 
 // Where it is, that there is none, or the number of a refusal.
-#[derive(Drop)]
+#[derive(Clone, Copy)]
 pub enum Found {
     At { page: usize, column: usize },
     Nothing,

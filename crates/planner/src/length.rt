@@ -14,7 +14,7 @@ use paper::sheet::{ks0713, ks0717};
 
 // A page's bytes so far without its page byte, and the column from which a new stretch costs no
 // more than going on: at first 0, so that the first differing column starts one.
-#[derive(Drop)]
+#[derive(Clone, Copy)]
 struct Tally {
     bytes: usize,
     anew: usize,

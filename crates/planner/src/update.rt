@@ -16,7 +16,7 @@ use paper::refusal::{SHORT_OUTPUT, WRONG_SIZE};
 use paper::sheet::{ks0713, ks0717};
 
 // Where the next cycle goes, whether this page's byte is out, and the column after the last byte.
-#[derive(Drop)]
+#[derive(Clone, Copy)]
 struct Pen {
     at: usize,
     sent: bool,

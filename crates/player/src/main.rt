@@ -1,4 +1,6 @@
 // The player: reads one job from standard input, plays it, and writes its text to standard output.
+#![tactic(auto)]
+
 ghost use Rattle.std.specs.Prelude.{◌≡◌, ◌≤◌, length, take};
 ghost use Rattle.jobs.specs.Play.{longest, text_of};
 

@@ -1,6 +1,8 @@
 // The recorder for people: reads the text form of cycles from standard input, and the pictures that its arguments name, and writes the
 // job file to standard output; after --new one of the new command set. Where something is refused it says so in one line on standard
 // error, and writes nothing.
+#![tactic(auto)]
+
 mod make;
 mod pictures;
 mod say;

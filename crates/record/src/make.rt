@@ -10,7 +10,7 @@ use recorder::job::write_job;
 use recorder::text::{Lines, read_text};
 
 // What comes of a text: a job of so many bytes, the number of its first bad line, or too many cycles.
-#[derive(Drop)]
+#[derive(Clone, Copy)]
 pub(crate) enum Made {
     Job(usize),
     BadLine(usize),

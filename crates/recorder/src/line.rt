@@ -8,7 +8,7 @@ ghost use Rattle.recorder.specs.Scan.{no_line, short_line, long_line, line_for};
 use crate::put::put_byte;
 
 // The line in front of a text: the cycle that it says and how many bytes it takes, or that it says none.
-#[derive(Drop)]
+#[derive(Clone, Copy)]
 pub(crate) struct Line {
     pub bad: bool,
     pub kind: u8,

@@ -12,7 +12,7 @@ use paper::refusal::{OUTSIDE_FIELD, SHORT_OUTPUT};
 use planner::count::Count;
 
 // How many cycles a text has; or the number of its first bad line, which is refusal 11; or the number of another refusal.
-#[derive(Drop)]
+#[derive(Clone, Copy)]
 pub enum Lines {
     Cycles(usize),
     BadLine(usize),
@@ -20,7 +20,7 @@ pub enum Lines {
 }
 
 // How many cycles' lines stand in front of a text, and how many bytes they take.
-#[derive(Drop)]
+#[derive(Clone, Copy)]
 struct Front {
     lines: usize,
     at: usize,

@@ -1,4 +1,6 @@
 // The registers, by value: what they are, their ranges, a setter for each, their start values, and the switch between the command sets.
+#![tactic(auto)]
+
 ghost use Rattle.std.specs.Prelude.{◌≡◌};
 ghost use Rattle.registers.specs.Beside.{outside_beside};
 ghost use Rattle.registers.specs.Registers.{saved_of, outside};
@@ -12,11 +14,11 @@ pub mod start;
 pub mod switch;
 
 // A column address, on the memory side.
-#[derive(Drop)]
+#[derive(Clone, Copy)]
 pub struct Column(pub u8);
 
 // Modify-read: off, or on with its saved column.
-#[derive(Drop)]
+#[derive(Clone, Copy)]
 pub enum ModifyRead {
     Off,
     On(Column),
@@ -24,7 +26,7 @@ pub enum ModifyRead {
 
 // What the new command set has beside the registers of the sheet: which set is in force, initial COM0, partial duty, and after how many
 // lines the drive is inverted, 0 for frame inversion.
-#[derive(Drop)]
+#[derive(Clone, Copy)]
 pub struct Beside {
     pub set: CommandSet,
     pub com0: u8,
@@ -32,7 +34,7 @@ pub struct Beside {
     pub inversion: u8,
 }
 
-#[derive(Drop)]
+#[derive(Clone, Copy)]
 pub struct Registers {
     pub page: u8,
     pub column: Column,

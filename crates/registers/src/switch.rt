@@ -12,7 +12,7 @@ use paper::refusal::{AWAITED_AT_SWITCH, OUT_OF_RANGE};
 use paper::sheet::{Sheet, ks0713, ks0717};
 
 // The registers after a switch, or the number of the refusal.
-#[derive(Drop)]
+#[derive(Clone, Copy)]
 pub enum Switched {
     Done(Registers),
     Refused(u8),

@@ -1,4 +1,6 @@
 // What is sent to a chip, played on it: the update's page groups in three orders. The output is compared with `stdout`.
+#![tactic(auto)]
+
 mod groups;
 mod play;
 mod refusals;

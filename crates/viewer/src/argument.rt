@@ -2,7 +2,7 @@
 ghost use Rattle.std.specs.Prelude.{◌≡◌, true};
 
 // What can be asked for: the glass drawn, a PBM picture of it, the update's cycles, or the job's own as text.
-#[derive(Drop)]
+#[derive(Clone, Copy)]
 pub(crate) enum View {
     Glass,
     Picture,
@@ -11,7 +11,7 @@ pub(crate) enum View {
 }
 
 // What the argument asks for, or nothing that is known.
-#[derive(Drop)]
+#[derive(Clone, Copy)]
 pub(crate) enum Asked {
     For(View),
     Nothing,

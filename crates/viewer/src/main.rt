@@ -1,5 +1,7 @@
 // The viewer: reads one job from standard input, and writes what its argument asks for: the lit frame after the job's cycles,
 // drawn or as a PBM picture, the update to the wanted picture, or the job's cycles as text.
+#![tactic(auto)]
+
 mod argument;
 mod draw;
 mod play;

@@ -19,7 +19,7 @@ use Rattle.instructions.specs.declared.instruction.Instruction.{Instruction}
 use Rattle.instructions.specs.declared.instruction.Instruction.TheVariants.{ColumnLow, ColumnHigh, ContrastNext, ContrastValue, IndicatorOff, IndicatorValue, Page, Nop}
 use Rattle.instructions.proofs.Fields.{field_given}
 use Rattle.instructions.proofs.ReadBack.{read_back}
-use Rattle.registers.specs.Registers.{column, with_contrast, with_indicator, with_indicator_value, with_awaited, with_fresh}
+use Rattle.registers.specs.Registers.{with_contrast, with_indicator, with_indicator_value, with_awaited, with_fresh}
 use Rattle.registers.specs.declared.Registers.{Registers}
 use Rattle.registers.proofs.InRange.{own_awaited}
 use Rattle.controller.specs.Execute.{executed}

@@ -182,5 +182,6 @@ module _ (k : Sheet) where
 
   -- after accepted cycles among which is a data write and no data read the next data read is stale
   pub sent_stale : (xs : List BusCycle) (s : State) → numbers k s xs ≡ replicate (length xs) 0 → NoRead xs → HasWrite xs → (run k s xs).registers.fresh ≡ false
+  sent_stale [] s a h w = elim w [ ]
   sent_stale (x ∷ xs) s a h (inl e) = stay_stale xs (step k s x) h.1 (write_stales s x.0 x.1 e (ap (λ (l : List ℕ). get_or l 0 0) a))
   sent_stale (x ∷ xs) s a h (inr w) = sent_stale xs (step k s x) (ap (drop 1) a) h.1 w

@@ -5,7 +5,7 @@ use mathlib.Core.Path.{◌≡◌, ◌∙◌, ap}
 use mathlib.Core.List.{List}
 use Rattle.paper.specs.declared.sheet.Sheet.{Sheet}
 use Rattle.registers.specs.declared.Registers.{Registers}
-use Rattle.controller.specs.Cycle.{outcome, answer, memory_after, Cycled}
+use Rattle.controller.specs.Cycle.{outcome, memory_after, Cycled}
 use Rattle.controller.specs.State.{state, step}
 use Rattle.controller.specs.Turn.{Turn, turn_of, IsTurn}
 use Rattle.controller.specs.declared.cycle.Answer.{Answer}

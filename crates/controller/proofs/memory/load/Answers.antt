@@ -1,0 +1,32 @@
+-- `controller::memory::load` meets its contract: where there is such a cell it lies inside the memory.
+-- Assumes nothing.
+use mathlib.Core.Path.{◌∙◌, sym}
+use native.Mathlib.Omega.{arith}
+use Rattle.controller.specs.Memory.{loaded}
+use Rattle.controller.proofs.Cells.{cell_inside}
+use Rattle.controller.proofs.memory.load.Goals as goal
+
+pub overflow_mul-at : goal.overflow_mul-at
+unfolding loaded
+overflow_mul-at c =
+    omega (arith, cell_inside _ _ _ (sym c.is_cell.ensures ∙ c.if-is_cell.true))
+
+pub overflow_add-at : goal.overflow_add-at
+unfolding loaded
+overflow_add-at c =
+    omega (arith, cell_inside _ _ _ (sym c.is_cell.ensures ∙ c.if-is_cell.true))
+
+pub bounds-memory-at : goal.bounds-memory-at
+unfolding loaded
+bounds-memory-at c =
+    omega (arith, cell_inside _ _ _ (sym c.is_cell.ensures ∙ c.if-is_cell.true))
+
+pub returns-then-is_cell : goal.returns-then-is_cell
+unfolding loaded
+returns-then-is_cell c =
+    rw (← c.is_cell.ensures, c.if-is_cell.true, c.cell.ensures)
+
+pub returns : goal.returns
+unfolding loaded
+returns c =
+    rw (← c.is_cell.ensures, c.if-is_cell.false)

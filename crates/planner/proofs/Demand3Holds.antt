@@ -23,7 +23,7 @@ use Rattle.registers.specs.declared.Registers.{Registers}
 use Rattle.registers.proofs.InRange.{powered_inside}
 use Rattle.controller.specs.Run.{BusCycle}
 use Rattle.controller.specs.Cycle.{answer}
-use Rattle.controller.specs.State.{State, state, run, numbers, rest, settings}
+use Rattle.controller.specs.State.{State, state, run, numbers}
 use Rattle.controller.proofs.Chips.{chip_of, restart_of, moved, redrawn}
 use Rattle.controller.proofs.Marks.{sent_stale, next_tells}
 use Rattle.streams.specs.Update.{update, update_stream}

@@ -94,6 +94,7 @@ emit_no_read before (x ∷ xs) =
     no_read_append (address before x) _ (no_read_address before x) (no_read_append (map data_cycle x.content) _ (no_read_data x.content) (emit_no_read (some (end_of x)) xs))
 
 write_before : (xs ys : List BusCycle) → HasWrite xs → HasWrite (xs ++ ys)
+write_before [] ys w = elim w [ ]
 write_before (x ∷ xs) ys (inl e) = inl e
 write_before (x ∷ xs) ys (inr w) = inr (write_before xs ys w)
 

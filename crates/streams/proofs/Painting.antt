@@ -54,7 +54,7 @@ module _ (W : ℕ) where
   pub paint_length : (m : List ℕ) (xs : List Stretch) → length (paint W m xs) ≡ length m
   unfolding paint
   paint_length m [] = refl
-  paint_length m (x ∷ xs) = paint_length _ xs ∙ store_all_length m x.page x.start x.content
+  paint_length m (x ∷ xs) = paint_length (store_all W m x.page x.start x.content) xs ∙ store_all_length m x.page x.start x.content
 
   -- a byte that nothing goes to stays
   store_all_miss : (m : List ℕ) (p c : ℕ) (bs : List ℕ) (i : ℕ) → ((j : ℕ) → c ≤ j → j < c + length bs → i ≢ W * p + j)
@@ -71,12 +71,12 @@ module _ (W : ℕ) where
   paint_miss m [] q k v h e = refl
   paint_miss m (x ∷ xs) q k v h e = split (eqb x.page q)
       (λ t. let s : in_run (run_of x) k + hits (runs_on q xs) k ≡ 0 = rw t at e in
-      paint_miss _ xs q k v.3 h (omega arith)
+      paint_miss (store_all W m x.page x.start x.content) xs q k v.3 h (omega arith)
       ∙ store_all_miss m x.page x.start x.content (W * q + k) (λ j a b i.
       let z = place_one W q x.page k j h (omega arith) i in
       omega (arith, in_inside (run_of x) k (omega (arith, z.1)) (omega (arith, z.1)))))
       (λ t. let s : hits (runs_on q xs) k ≡ 0 = rw t at e in
-      paint_miss _ xs q k v.3 h s
+      paint_miss (store_all W m x.page x.start x.content) xs q k v.3 h s
       ∙ store_all_miss m x.page x.start x.content (W * q + k) (λ j a b i.
       eqb-false x.page q t (sym (place_one W q x.page k j h (omega arith) i).0)))
 
@@ -101,7 +101,7 @@ module _ (W : ℕ) where
   unfolding store_all wanted_bytes
   store_all_hit w m p c zero k e hp hn a b = absurd (omega arith)
   store_all_hit w m p c (suc n) k e hp hn a b = less c k
-      (λ h. store_all_hit w _ p (suc c) n k (stored_length W m p c (shown W w p c) ∙ e) hp (omega arith) h (omega arith))
+      (λ h. store_all_hit w (stored W m p c (shown W w p c)) p (suc c) n k (stored_length W m p c (shown W w p c) ∙ e) hp (omega arith) h (omega arith))
       (λ h. let s : k ≡ c = omega arith in
       rw s (store_all_miss _ p (suc c) (wanted_bytes W w p (suc c) n) (W * p + c) (λ j x y z. omega arith)
       ∙ stored_same W m p c (shown W w p c) e (omega arith) (omega arith)
@@ -121,7 +121,7 @@ module _ (W : ℕ) where
   unfolding paint runs_on hits
   paint_hit w m [] q k e v d hk h = absurd (omega arith)
   paint_hit w m (x ∷ xs) q k e v d hk h = less 0 (hits (runs_on q xs) k)
-      (λ l. paint_hit w _ xs q k (store_all_length m x.page x.start x.content ∙ e) v.3 d.2 hk l)
+      (λ l. paint_hit w (store_all W m x.page x.start x.content) xs q k (store_all_length m x.page x.start x.content ∙ e) v.3 d.2 hk l)
       (λ l. paint_miss _ xs q k v.3 hk (omega arith) ∙ split (eqb x.page q)
       (λ t. let s : 1 ≤ in_run (run_of x) k + hits (runs_on q xs) k = rw t at h in
       stretch_hit w m x q k e d.0 v.2 d.1 (eqb-true x.page q t) (omega arith))

@@ -1,0 +1,22 @@
+-- `planner::equal::past_blocks` meets its contract: before each block, none of the columns so far differs.
+-- Assumes nothing.
+use Rattle.planner.proofs.Showing.{told}
+use Rattle.planner.proofs.Passing.{past_none, past_block}
+use Rattle.planner.proofs.equal.past_blocks.Goals as goal
+
+pub loop-column-init : goal.loop-column-init
+loop-column-init c =
+    past_none c.requires.2
+
+pub returns-then-not-same : goal.returns-then-not-same
+returns-then-not-same c =
+    c.loop-column.invariant
+
+pub loop-column-preserved : goal.loop-column-preserved
+loop-column-preserved c =
+    let same = told c.same_columns-same.ensures c.if-not-same.false in
+    past_block 16 c.loop-column.invariant c.loop-column-test.true same
+
+pub returns : goal.returns
+returns c =
+    c.loop-column.invariant

@@ -1,0 +1,15 @@
+-- `planner::length::page_length` meets its contract: an equal page has no work; on any other, before each column, the bytes so far are
+-- counted, and so is the gap; at the end the page byte is added to any bytes.
+-- Assumes nothing.
+use Prim.Native.Nat.{◌+◌, ◌-◌, ◌≤◌}
+use Rattle.streams.specs.Picture.{differs}
+use Rattle.streams.specs.Tally.{Counted}
+use Rattle.planner.proofs.length.page_length.Given as goal
+
+abbrev pub invariant-loop-column : goal.invariant-loop-column
+invariant-loop-column l =
+    (l.tally.anew ≤ l.column + 2) × Counted (differs l.width l.recorded l.wanted l.page) l.width l.tally.bytes (l.column + 2 - l.tally.anew) l.column
+
+abbrev pub decreases-loop-column : goal.decreases-loop-column
+decreases-loop-column l =
+    l.width - l.column

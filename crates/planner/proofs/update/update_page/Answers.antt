@@ -1,0 +1,58 @@
+-- `planner::update::update_page` meets its contract: before each column, what the walk from there still sends, put now, gives the
+-- page's group; equal columns send nothing.
+-- Assumes nothing.
+use Prim.Native.Nat.{◌-◌}
+use mathlib.Core.Path.{◌≡◌}
+use native.Mathlib.Omega.{arith}
+use borrow.Author.Rules.{rules}
+use Rattle.streams.specs.Picture.{differs}
+use Rattle.streams.proofs.Walking.{walk_differs, walk_end}
+use Rattle.planner.proofs.Showing.{told}
+use Rattle.planner.proofs.Turns.{walk_passed}
+use Rattle.planner.proofs.Writing.{going_start, going_room, going_step, going_end}
+use Rattle.planner.proofs.update.update_page.Goals as goal
+
+pub loop-column-init : goal.loop-column-init
+loop-column-init c =
+    let z : c.args.width - 0 ≡ c.args.width = omega arith in
+    (omega arith, rw z (going_start c.requires.2))
+
+pub update_column-pen-requires : goal.update_column-pen-requires
+update_column-pen-requires c =
+    let a = c.args in
+    let p = c.loop-column.pen in
+    let yes = told c.differ.ensures c.if-differ.true in
+    let d = differs a.width a.recorded.now a.wanted.now a.page in
+    let n = walk_differs a.width a.wanted.now a.page d p.sent p.next c.loop-column.column c.loop-column-test.true yes in
+    (search rules, search rules, search rules, c.loop-column.invariant.0, going_room _ _ n c.loop-column.invariant.1)
+
+pub loop-column-preserved-then-differ : goal.loop-column-preserved-then-differ
+loop-column-preserved-then-differ c =
+    let a = c.args in
+    let p = c.loop-column.pen in
+    let yes = told c.differ.ensures c.if-differ.true in
+    let d = differs a.width a.recorded.now a.wanted.now a.page in
+    let n = walk_differs a.width a.wanted.now a.page d p.sent p.next c.loop-column.column c.loop-column-test.true yes in
+    let w = c.update_column-pen.ensures in
+    (omega (arith, c.loop-column-test.true, w.2), rw (w.1, w.2) (going_step _ _ n c.loop-column.invariant.1 w.0))
+
+pub loop-column-smaller : goal.loop-column-smaller
+loop-column-smaller c =
+    let past = c.past_equal-column.ensures in
+    omega (arith, c.loop-column-test.true, past.0, past.1)
+
+pub loop-column-preserved : goal.loop-column-preserved
+loop-column-preserved c =
+    let a = c.args in
+    let p = c.loop-column.pen in
+    let no = told c.differ.ensures c.if-differ.false in
+    let d = differs a.width a.recorded.now a.wanted.now a.page in
+    let n = walk_passed a.width a.wanted.now a.page d p.sent p.next c.loop-column.column _ c.loop-column-test.true no c.past_equal-column.ensures in
+    (c.loop-column.invariant.0, rw n at c.loop-column.invariant.1)
+
+pub returns : goal.returns
+returns c =
+    let a = c.args in
+    let p = c.loop-column.pen in
+    let d = differs a.width a.recorded.now a.wanted.now a.page in
+    going_end (walk_end a.width a.wanted.now a.page d p.sent p.next c.loop-column.column c.loop-column-test.false) c.loop-column.invariant.1

@@ -1,0 +1,27 @@
+-- `planner::update::update_pages` meets its contract: before each page, what the pages left send, put now, gives the whole update.
+-- Assumes nothing.
+use borrow.Author.Rules.{rules}
+use Rattle.streams.proofs.Walking.{walk_pages_next, walk_pages_end}
+use Rattle.planner.proofs.Writing.{going_start, going_room, going_step, going_end}
+use Rattle.planner.proofs.update.update_pages.Goals as goal
+
+pub loop-page-init : goal.loop-page-init
+loop-page-init c =
+    going_start c.requires.1
+
+pub update_differing-at-requires : goal.update_differing-at-requires
+update_differing-at-requires c =
+    let a = c.args in
+    let n = walk_pages_next a.width a.recorded.now a.wanted.now c.loop-page.page c.loop-page-test.true in
+    (search rules, search rules, going_room _ _ n c.loop-page.invariant)
+
+pub loop-page-preserved : goal.loop-page-preserved
+loop-page-preserved c =
+    let a = c.args in
+    let n = walk_pages_next a.width a.recorded.now a.wanted.now c.loop-page.page c.loop-page-test.true in
+    going_step _ _ n c.loop-page.invariant c.update_differing-at.ensures
+
+pub returns : goal.returns
+returns c =
+    let a = c.args in
+    going_end (walk_pages_end a.width a.recorded.now a.wanted.now c.loop-page.page c.loop-page-test.false) c.loop-page.invariant

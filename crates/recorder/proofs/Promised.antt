@@ -88,6 +88,7 @@ among_by [] e = absurd (subst T (sym e ∙ wrong_none) tt)
 among_by (x ∷ xs) e = ⊎_elim first (λ h. later (among_by xs h)) (either (malformed x.0 x.1) (any_wrong xs) (sym (wrong_next x xs) ∙ e))
 
 by_among : (xs : List BusCycle) → WrongAmong xs → any_wrong xs ≡ true
+by_among [] w = elim w [ ]
 by_among (x ∷ xs) (first h) = wrong_next x xs ∙ or_true (malformed x.0 x.1) (any_wrong xs) (inl h)
 by_among (x ∷ xs) (later w) = wrong_next x xs ∙ or_true (malformed x.0 x.1) (any_wrong xs) (inr (by_among xs w))
 

@@ -1,0 +1,12 @@
+-- `panel::added::write_named` meets its contract: the writer's promise, or 6.
+-- Assumes nothing.
+use borrow.Author.Rules.{rules}
+use Rattle.panel.proofs.added.write_named.Goals as goal
+
+pub returns-in-Known : goal.returns-in-Known
+returns-in-Known c =
+    rw c.in-Known.is c.write_added.ensures
+
+pub returns-in-Unknown : goal.returns-in-Unknown
+returns-in-Unknown c =
+    rw c.in-Unknown.is

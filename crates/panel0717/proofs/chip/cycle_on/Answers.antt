@@ -1,0 +1,21 @@
+-- `panel0717::chip::cycle_on` meets its contract: 1 or 2 where the state is unfit, else the controller's promise.
+-- Assumes nothing.
+use mathlib.Core.Path.{refl, ap}
+use native.Mathlib.Omega.{arith}
+use borrow.Author.Rules.{rules}
+use Rattle.paper.specs.Sheet.{sheet0717}
+use Rattle.planner.proofs.Showing.{told}
+use Rattle.face.proofs.Sizes.{sized}
+use Rattle.panel0717.proofs.chip.cycle_on.Goals as goal
+
+pub overflow_mul-size : goal.overflow_mul-size
+overflow_mul-size c =
+    omega (arith, ap (λ k. k.width) c.ks0717-size.ensures)
+
+pub returns-then-is_unfit : goal.returns-then-is_unfit
+returns-then-is_unfit c =
+    rw (told c.is_unfit.ensures c.if-is_unfit.true) (rw (c.unfit_number.ensures, sized sheet0717 c.ks0717-size.ensures _) refl, refl)
+
+pub returns : goal.returns
+returns c =
+    rw (told c.is_unfit.ensures c.if-is_unfit.false) (rw c.unpack.ensures at c.cycle_ks0717.ensures)

@@ -1,5 +1,5 @@
 # What ./play and ./record share: they read it with their name in $name and the checkout's folder in $here. $program is the proved program
-# that is asked for.
+# that is asked for; rt puts it into its crate's out/.
 say() { printf '%s: %s\n' "$name" "$*" >&2; }
 die() { say "$@"; exit 2; }
 
@@ -12,69 +12,81 @@ make_folder() {
 
 # whether the program is there, and no source of it is newer
 root=$here
-built() { [ -x "$root/target/bin/$program" ] && [ -z "$(find "$root/crates" "$root/crates.txt" -newer "$root/target/bin/$program" \( -name '*.rt' -o -name '*.antt' -o -name crates.txt \) -print)" ]; }
+proved() { printf '%s\n' "$root/crates/$program/out/$program"; }
+built() { [ -x "$(proved)" ] && [ -z "$(find "$root/crates" "$root/crates.txt" -name out -prune -o -newer "$(proved)" \( -name '*.rt' -o -name '*.antt' -o -name crates.txt \) -print)" ]; }
 
-# A checkout that cannot be written is copied to where the user's caches are, again where a file of it has changed.
-sums() { (cd "$here" && find crates crates.txt -type f -exec cksum {} + | sort); }
+# A checkout that cannot be written is copied to where the user's caches are, again where a file of it has changed. What rt keeps in each
+# out/ is not the checkout's, and that of the copy stays.
+sources() { find crates crates.txt -name out -prune -o -type f "$@"; }
+sums() { (cd "$here" && sources -exec cksum {} + | sort); }
 copy() {
   root=${XDG_CACHE_HOME:-${HOME:-}/.cache}/wangemipe-panel
   { mkdir -p "$root/target" && touch "$root/sums"; } 2>/dev/null || die "$program is to be built, and neither $here nor $root can be written: set XDG_CACHE_HOME to a folder that can"
   if ! sums | cmp -s - "$root/sums"; then
-    rm -rf "$root/crates" "$root/crates.txt"
-    cp -R "$here/crates" "$here/crates.txt" "$root" || die "$here could not be copied to $root"
-    chmod -R u+w "$root/crates" "$root/crates.txt"
+    rm -f "$root/sums"
+    [ ! -d "$root/crates" ] || (cd "$root" && sources -exec rm -f {} +)
+    (cd "$here" && sources -print | tar -cf - -T -) | (cd "$root" && tar -xmf -) || die "$here could not be copied to $root"
+    (cd "$root" && sources -exec chmod u+w {} +)
     sums >"$root/sums"
   fi
 }
 
-# Says of rt's lines, as they come, which crate is proved. When the line `slow` comes, rt has passed the first of those that it need not
-# prove; there may be more behind one that it proves.
+# the crates that the program stands on, and its own, a line each, in the order in which rt takes them
+order() {
+  sed 's/#.*//' "$root/crates.txt" | awk -F: -v top="$program" '{ split($1, word, " "); needs[word[1]] = $2 }
+    function take(name,  need, n, i) { if (!(name in needs) || name in taken) return; taken[name]; n = split(needs[name], need, " "); for (i = 1; i <= n; i++) take(need[i]); print name }
+    END { take(top) }'
+}
+
+# Says of rt's lines, as they come, which crate is proved. Where rt begins one, it has passed those ahead that it need not prove; there may
+# be more behind. The line `slow` comes when some time has gone.
 progress() {
-  all=$(awk -F: -v top="$program" '{ name[NR] = $1; needs[NR] = $2 }
-    END { used[top]; for (i = NR; i; i--) if (name[i] in used) { n++; split(needs[i], need, " "); for (k in need) used[need[k]] } print n }' "$root/crates.txt")
-  proved=0
+  order >"$folder/order"
+  all=$(wc -l <"$folder/order")
+  crate='' place=0 is_slow=''
   while IFS= read -r line; do
     case $line in
-    slow) [ $((all - proved)) -lt 2 ] || say "up to $((all - proved)) crates are to be proved: about $(((all - proved) / 3 + 1)) min" ;;
-    'rt: '*' proved (unchanged'*) proved=$((proved + 1)) ;;
-    'rt: '*' proved ('*) proved=$((proved + 1)) line=${line#rt: }; say "${line%% *} proved, $proved of $all" ;;
+    slow) is_slow=yes ;;
+    'rt: chose '*' for '*) crate=${line##* } place=$(grep -nx "${line##* }" "$folder/order" | cut -d: -f1) ;;
+    logic=proved*) [ -z "$crate" ] || say "$crate proved, $place of $all" ;;
     esac
+    [ -n "$is_slow" ] && [ -n "$place" ] && [ "$place" -gt 0 ] || continue
+    [ "$is_slow" = said ] || [ "$place" -eq "$all" ] || say "up to $((all - place + 1)) crates are to be proved: about $(((all - place + 1) / 3 + 1)) min"
+    is_slow=said
   done
 }
 
-# By rt, only from proved crates. rt links no program that it has a stamp of: where the program is gone, the stamp goes too.
+# By rt, only from proved crates. rt has no command that builds a program and no more, so it is run once, on nothing.
 build() {
   command -v rt >/dev/null || die "$program is to be built, by the Rattle toolchain, and its command rt is not on the PATH"
   where=
   [ "$root" = "$here" ] || where=" in $root, since $here cannot be written"
   say "building $program first$where"
-  [ -x "$root/target/bin/$program" ] || rm -f "$root/target/stamp/$program"
   {
     { sleep 1; [ -e "$folder/ended" ] || sleep 1; [ -e "$folder/ended" ] || echo slow; } &
-    { (cd "$root" && rt check "$program" </dev/null 2>&1 && echo good >"$folder/ended") || echo bad >"$folder/ended"; } | tee "$root/target/$name.log"
+    { (cd "$root/crates/$program" && rt run </dev/null 2>&1 >/dev/null) || :; : >"$folder/ended"; } | tee "$root/target/$name.log"
     wait
   } | progress
-  [ "$(cat "$folder/ended")" = good ] || die "$program was not built: $root/target/$name.log says why"
-  touch "$root/target/bin/$program"
+  grep -q "^rt: running out/$program;" "$root/target/$name.log" || die "$program was not built: $root/target/$name.log says why"
+  touch "$(proved)"
 }
 
-# Builds the program where that is needed. Programs are for x86-64; elsewhere they run under the toolchain's emulator.
+# Builds the program where that is needed. Programs are for x86-64; elsewhere they run under an emulator, with the toolchain's C library.
 ready() {
   if ! built; then
-    { mkdir -p "$root/target" && touch "$root/target/$name.log"; } 2>/dev/null || copy
+    { mkdir -p "$root/target" "$root/crates/$program/out" && touch "$root/target/$name.log" "$root/crates/$program/out"; } 2>/dev/null || copy
     built || build
   fi
   machine=$(uname -m)
   [ "$machine" != x86_64 ] || return 0
-  command -v rt >/dev/null || die "$program is for x86-64, and on $machine it runs under the Rattle toolchain's emulator: put its command rt on the PATH"
-  tools=$(rt doc)
-  tools=${tools%/docs/START-HERE.md}/on/$machine/toolchain
+  { command -v rt && command -v qemu-x86_64; } >/dev/null || die "$program is for x86-64, and on $machine it runs under an emulator: put qemu-x86_64 and the Rattle toolchain's command rt on the PATH"
+  tools=$(dirname "$(rt doc)")/toolchain
 }
 
 # Runs it on $folder/in: what it writes is in $folder/out, and what it says is said.
 run() {
-  set -- "$root/target/bin/$program" "$@"
-  [ "$machine" = x86_64 ] || set -- "$tools/bin/qemu-x86_64" "$tools/lib/ld-linux-x86-64.so.2" --library-path "$tools/lib" "$@"
+  set -- "$(proved)" "$@"
+  [ "$machine" = x86_64 ] || set -- qemu-x86_64 "$tools/lib/ld-linux-x86-64.so.2" --library-path "$tools/lib" "$@"
   "$@" <"$folder/in" >"$folder/out" 2>"$folder/said" || { cat "$folder/said" >&2; die "$program stopped early"; }
   cat "$folder/said" >&2
 }

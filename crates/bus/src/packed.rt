@@ -29,8 +29,7 @@ fn run_on(
 
 // Plays the cycles: the state and the memory become what they are after them, and each cycle's answer goes into the outputs.
 // Refuses with 1, 2, 5.
-#[unsafe(no_mangle)]
-pub extern "C" fn bus_run(
+pub fn bus_run(
     state: &mut State,
     memory: &mut [u8],
     cycles: &[u8],

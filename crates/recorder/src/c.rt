@@ -35,8 +35,7 @@ fn write_on(set: u8, cycles: &[u8], count: usize, pictures: &[u8], out: &mut [u8
 }
 
 // A job file of a command set, 0 old, 1 new, from cycles and pictures, and its length. Refuses with 1, 6, 5.
-#[unsafe(no_mangle)]
-pub extern "C" fn recorder_write_job(
+pub fn recorder_write_job(
     set: u8,
     cycles: &[u8],
     count: usize,
@@ -50,8 +49,7 @@ pub extern "C" fn recorder_write_job(
 }
 
 // The text of cycles, and its length. Refuses with 6, 5.
-#[unsafe(no_mangle)]
-pub extern "C" fn recorder_write_text(cycles: &[u8], out: &mut [u8], length: &mut usize) -> u8
+pub fn recorder_write_text(cycles: &[u8], out: &mut [u8], length: &mut usize) -> u8
     ensures { TextOut cycles.now out.old length.old out.new length.new result }
 {
     tell_count(write_text(cycles, out), length)
@@ -75,13 +73,7 @@ fn tell_lines(answer: Lines, count: &mut usize, line: &mut usize) -> u8
 }
 
 // The cycles of a text, and how many. Refuses with 11 and the first bad line's number, with 6, 5.
-#[unsafe(no_mangle)]
-pub extern "C" fn recorder_read_text(
-    text: &[u8],
-    out: &mut [u8],
-    count: &mut usize,
-    line: &mut usize,
-) -> u8
+pub fn recorder_read_text(text: &[u8], out: &mut [u8], count: &mut usize, line: &mut usize) -> u8
     ensures { LinesOut text.now out.old count.old line.old
         out.new count.new line.new result }
 {
@@ -89,8 +81,7 @@ pub extern "C" fn recorder_read_text(
 }
 
 // How many cycles and how many pictures a job file has, and its command set, 0 old, 1 new. Refuses with 7, 8, 9.
-#[unsafe(no_mangle)]
-pub extern "C" fn recorder_read_header(
+pub fn recorder_read_header(
     file: &[u8],
     cycles: &mut usize,
     pictures: &mut usize,
@@ -111,8 +102,7 @@ pub extern "C" fn recorder_read_header(
 }
 
 // The player's text of a job file, and its length; of a file that is no job, the one line `bad`. Refuses with 5.
-#[unsafe(no_mangle)]
-pub extern "C" fn recorder_play(file: &[u8], out: &mut [u8], length: &mut usize) -> u8
+pub fn recorder_play(file: &[u8], out: &mut [u8], length: &mut usize) -> u8
     ensures { PlayOut file.now out.old length.old out.new length.new result }
 {
     match play(file, out) {

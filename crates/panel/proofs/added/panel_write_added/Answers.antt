@@ -1,6 +1,5 @@
 -- `panel::added::panel_write_added` meets its contract: what is named is written, and told.
 -- Assumes nothing.
-use borrow.Author.Rules.{rules}
 use Rattle.panel.proofs.added.panel_write_added.Goals as goal
 
 pub returns : goal.returns

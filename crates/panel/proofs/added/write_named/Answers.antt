@@ -1,6 +1,5 @@
 -- `panel::added::write_named` meets its contract: the writer's promise, or 6.
 -- Assumes nothing.
-use borrow.Author.Rules.{rules}
 use Rattle.panel.proofs.added.write_named.Goals as goal
 
 pub returns-in-Known : goal.returns-in-Known

@@ -1,6 +1,5 @@
 -- `panel::bytes::panel_write_instruction` meets its contract: what is named is written, and told.
 -- Assumes nothing.
-use borrow.Author.Rules.{rules}
 use Rattle.panel.proofs.bytes.panel_write_instruction.Goals as goal
 
 pub returns : goal.returns

@@ -1,6 +1,5 @@
 -- `panel::bytes::write_named` meets its contract: the writer's promise, or 6.
 -- Assumes nothing.
-use borrow.Author.Rules.{rules}
 use Rattle.panel.proofs.bytes.write_named.Goals as goal
 
 pub returns-in-Known : goal.returns-in-Known

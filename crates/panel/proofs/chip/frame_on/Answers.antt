@@ -2,7 +2,6 @@
 -- Assumes nothing.
 use mathlib.Core.Path.{refl, ap}
 use native.Mathlib.Omega.{arith}
-use borrow.Author.Rules.{rules}
 use Rattle.paper.specs.Sheet.{sheet0713}
 use Rattle.planner.proofs.Showing.{told}
 use Rattle.face.proofs.Sizes.{both_sized}

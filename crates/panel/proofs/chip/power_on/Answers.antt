@@ -1,7 +1,6 @@
 -- `panel::chip::power_on` meets its contract: 2 where the state is unfit, else the glass's promise.
 -- Assumes nothing.
 use mathlib.Core.Path.{refl}
-use borrow.Author.Rules.{rules}
 use Rattle.planner.proofs.Showing.{told}
 use Rattle.panel.proofs.chip.power_on.Goals as goal
 

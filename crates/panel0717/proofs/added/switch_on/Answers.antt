@@ -1,7 +1,6 @@
 -- `panel0717::added::switch_on` meets its contract: 2 where the state is unfit or the set is neither, else the switch's promise.
 -- Assumes nothing.
 use mathlib.Core.Path.{refl}
-use borrow.Author.Rules.{rules}
 use Rattle.panel0717.proofs.added.switch_on.Goals as goal
 
 pub returns-then-is_unfit-set : goal.returns-then-is_unfit-set

@@ -1,6 +1,5 @@
 -- `panel0717::bytes::panel0717_write_instruction` meets its contract: what is named is written, and told.
 -- Assumes nothing.
-use borrow.Author.Rules.{rules}
 use Rattle.panel0717.proofs.bytes.panel0717_write_instruction.Goals as goal
 
 pub returns : goal.returns

@@ -1,7 +1,6 @@
 -- `panel0717::bytes::read_on` meets its contract: 2 where the awaited byte is above 5, else the reader's promise.
 -- Assumes nothing.
 use mathlib.Core.Path.{refl}
-use borrow.Author.Rules.{rules}
 use borrow.Author.Tests.{lt-ltb, le-ltb}
 use Rattle.panel0717.proofs.bytes.read_on.Goals as goal
 

@@ -115,6 +115,7 @@ pub fn not_a_cycle(kind: u8, value: u8) -> bool
 }
 
 // The number that a cycle is refused with before its instruction is looked at, 0 for none.
+#[tactic(auto, using(paper::proofs::Tests::tests), unfolding(crate::specs::Cycle::refusal))]
 fn refusal_of(chip: Sheet, len: usize, registers: Registers, kind: u8, value: u8) -> u8
     requires { Sensible chip }
     ensures { result ≡ refusal chip len registers kind value }

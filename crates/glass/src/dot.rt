@@ -42,6 +42,7 @@ fn cell_bit(width: usize, memory: &[u8], line: usize, column: Column) -> bool
 }
 
 // Whether a dot is lit, by the steps of the KS0713 data sheet (002): off, then entire display, then reverse, each under its heading.
+#[tactic(auto, unfolding(crate::specs::Dot::dot_of))]
 fn dot(on: bool, entire: bool, reverse: bool, bit: bool) -> bool
     ensures { result ≡ dot_of on entire reverse bit }
 {

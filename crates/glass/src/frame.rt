@@ -71,6 +71,7 @@ fn fill(chip: Sheet, registers: Registers, memory: &[u8], out: &mut [u8])
 }
 
 // The number that a frame call is refused with, 0 for none.
+#[tactic(auto, unfolding(crate::specs::Frame::refusal))]
 fn refusal_of(chip: Sheet, registers: Registers, memory: usize, frame: usize) -> u8
     requires { Sensible chip }
     ensures { result ≡ refusal chip registers memory frame }

@@ -32,6 +32,7 @@ pub extern "C" fn panel_write_added(number: u8, value: u8, byte: &mut u8) -> u8
 }
 
 // One byte, with what is awaited by its number.
+#[tactic(auto, using(paper::proofs::Tests::tests))]
 fn read_on(awaited: u8, byte: u8) -> AddedReading
     ensures { ReadAddedOn awaited byte result }
 {

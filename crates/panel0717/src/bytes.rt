@@ -28,6 +28,7 @@ pub extern "C" fn panel0717_write_instruction(number: u8, value: u8, byte: &mut 
 }
 
 // One byte, with what is awaited by its number.
+#[tactic(auto, using(paper::proofs::Tests::tests))]
 fn read_on(awaited: u8, byte: u8) -> Reading
     ensures { ReadOn sheet0717 awaited byte result }
 {

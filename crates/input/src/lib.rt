@@ -3,6 +3,9 @@
 
 ghost use Rattle.std.specs.Prelude.{◌+◌, ◌≤◌, length};
 
+use std::io;
+use std::io::Read;
+
 // How many bytes came, and whether a read failed.
 #[derive(Clone, Copy)]
 pub struct Input {
@@ -11,25 +14,30 @@ pub struct Input {
 }
 
 // One read into the buffer, from a place on.
-fn read_some(buffer: &mut [u8], from: usize) -> Input
+fn read_some(reader: &mut impl Read, buffer: &mut [u8], from: usize) -> Input
     requires { from ≤ length buffer.old }
     ensures { from + result.count ≤ length buffer.new }
 {
-    let rest = &mut buffer[from..];
-    let got = libc::read(libc::STDIN_FILENO, rest);
-    Input {
-        count: io::count(got, rest),
-        failed: got < 0,
+    match reader.read(&mut buffer[from..]) {
+        Ok(count) => Input {
+            count,
+            failed: false,
+        },
+        Err(_) => Input {
+            count: 0,
+            failed: true,
+        },
     }
 }
 
 // Reads standard input to its end, or until the buffer is full.
-pub fn read_all(buffer: &mut [u8]) -> Input
+pub fn read_all(rt: &impl io::Input, buffer: &mut [u8]) -> Input
     ensures { result.count ≤ length buffer.new }
 {
+    let mut reader = rt.reader();
     let mut n = 0;
     while n < buffer.len() {
-        let input = read_some(buffer, n);
+        let input = read_some(&mut reader, buffer, n);
         if input.failed {
             return input;
         }

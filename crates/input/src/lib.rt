@@ -1,7 +1,9 @@
-// Reading standard input.
+// Reading standard input, a file, and the arguments.
 #![tactic(auto)]
 
-ghost use Rattle.std.specs.Prelude.{◌+◌, ◌≤◌, length};
+pub mod arguments;
+
+ghost use Rattle.std.specs.Prelude.{◌≡◌, ◌+◌, ◌≤◌, length};
 
 use std::io;
 use std::io::Read;
@@ -11,6 +13,13 @@ use std::io::Read;
 pub struct Input {
     pub count: usize,
     pub failed: bool,
+}
+
+// Room for 65,536 bytes of input. It stands in a function of its own, so that its bytes are not computed where it is used.
+pub fn large_buffer() -> [u8; 65536]
+    ensures { 65536 ≡ length result }
+{
+    [0; 65536]
 }
 
 // One read into the buffer, from a place on.
@@ -50,4 +59,19 @@ pub fn read_all(rt: &impl io::Input, buffer: &mut [u8]) -> Input
         count: n,
         failed: false,
     }
+}
+
+// Reads until the buffer is full, the input ends or a read fails: how many bytes were read.
+pub fn read_full(reader: &mut impl Read, buffer: &mut [u8]) -> usize
+    ensures { result ≤ length buffer.new }
+{
+    let mut n = 0;
+    while n < buffer.len() {
+        let input = read_some(reader, buffer, n);
+        if input.count == 0 {
+            break;
+        }
+        n += input.count;
+    }
+    n
 }

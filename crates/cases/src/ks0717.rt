@@ -4,7 +4,7 @@ use crate::buffers::{ones_ks0717, zeros, zeros_ks0717};
 use crate::chip::{Chip, run_on};
 use crate::glass_cases::{named, summary};
 use crate::print::{byte, line, number, refused, told, word};
-use crate::streams::{answer, found};
+use crate::stream_cases::{answer, found};
 use glass::frame::{Shown, frame_ks0717};
 use glass::power::{Powered, power_state_ks0717};
 use glass::voltage::{Voltage0717, v0_ks0717};

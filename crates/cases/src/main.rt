@@ -8,7 +8,7 @@ mod ks0717;
 mod ks0759;
 mod print;
 mod recording;
-mod streams;
+mod stream_cases;
 
 fn main(rt: HostRuntime) {
     chip::instructions(&rt);
@@ -17,8 +17,8 @@ fn main(rt: HostRuntime) {
     glass_cases::frames(&rt);
     glass_cases::powers(&rt);
     glass_cases::voltages(&rt);
-    streams::lengths(&rt);
-    streams::redraws(&rt);
+    stream_cases::lengths(&rt);
+    stream_cases::redraws(&rt);
     ks0717::heading(&rt);
     ks0717::cycles(&rt);
     ks0717::instructions(&rt);

@@ -3,7 +3,7 @@ ghost use Rattle.std.specs.Prelude.{◌≡◌, length};
 
 use crate::buffers::zeros;
 use crate::print::{byte, line, number, refused, word};
-use crate::streams::answer;
+use crate::stream_cases::answer;
 use instructions::added::CommandSet;
 use recorder::job::write_job;
 use recorder::text::{Lines, read_text, write_text};

@@ -1,5 +1,5 @@
 -- The bit decides which of the two characters it is.
-use Rattle.std.proofs.Common.{◌≡◌, sym, ◌∙◌}
+use Rattle.std.proofs.Common.{sym, ◌∙◌}
 use Rattle.viewer.specs.Drawn.{glyph}
 use Rattle.viewer.proofs.draw.character.Goals as goal
 

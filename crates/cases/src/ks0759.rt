@@ -126,6 +126,21 @@ fn switched(rt: &impl Print, name: &[u8], registers: Registers, set: CommandSet)
     tell(rt, switch_set(registers, set));
 }
 
+// A column that the KS0717 has not: 2.
+fn too_far(rt: &impl Print) {
+    word(rt, b"the KS0717, column 128");
+    tell(
+        rt,
+        switch_set_ks0717(
+            Registers {
+                column: Column(128),
+                ..power_up_ks0717()
+            },
+            CommandSet::New,
+        ),
+    );
+}
+
 pub(crate) fn switches(rt: &impl Print) {
     switched(rt, b"to the new set", power_up(), CommandSet::New);
     // With the pin low, the mark fresh and every register away from its start value.
@@ -157,17 +172,7 @@ pub(crate) fn switches(rt: &impl Print) {
         CommandSet::New,
     );
     switched(rt, b"one line", one_line(), CommandSet::New);
-    word(rt, b"the KS0717, column 128");
-    tell(
-        rt,
-        switch_set_ks0717(
-            Registers {
-                column: Column(128),
-                ..power_up_ks0717()
-            },
-            CommandSet::New,
-        ),
-    );
+    too_far(rt);
 }
 
 // The frame of a memory of which byte 0 is 1, in the new set; and refused.

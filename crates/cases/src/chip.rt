@@ -8,93 +8,93 @@ use instructions::instruction::Awaited;
 use registers::start::power_up;
 use registers::{Beside, Column, ModifyRead, Registers};
 
-fn saved(mode: ModifyRead) {
+fn saved(rt: &impl Print, mode: ModifyRead) {
     match mode {
-        ModifyRead::Off => word(b" -"),
-        ModifyRead::On(column) => byte(column.0),
+        ModifyRead::Off => word(rt, b" -"),
+        ModifyRead::On(column) => byte(rt, column.0),
     }
 }
 
-fn awaited_byte(awaited: Awaited) {
+fn awaited_byte(rt: &impl Print, awaited: Awaited) {
     match awaited {
-        Awaited::Nothing => word(b" nothing"),
-        Awaited::Contrast => word(b" contrast"),
-        Awaited::Indicator => word(b" indicator"),
-        Awaited::Com0 => word(b" com0"),
-        Awaited::Duty => word(b" duty"),
-        Awaited::Inversion => word(b" inversion"),
+        Awaited::Nothing => word(rt, b" nothing"),
+        Awaited::Contrast => word(rt, b" contrast"),
+        Awaited::Indicator => word(rt, b" indicator"),
+        Awaited::Com0 => word(rt, b" com0"),
+        Awaited::Duty => word(rt, b" duty"),
+        Awaited::Inversion => word(rt, b" inversion"),
     }
 }
 
-fn set_word(set: CommandSet) {
+fn set_word(rt: &impl Print, set: CommandSet) {
     match set {
-        CommandSet::Old => word(b" old"),
-        CommandSet::New => word(b" new"),
+        CommandSet::Old => word(rt, b" old"),
+        CommandSet::New => word(rt, b" new"),
     }
 }
 
 // The command set, initial COM0, duty and inversion.
-fn show_beside(beside: Beside) {
+fn show_beside(rt: &impl Print, beside: Beside) {
     let set = beside.set;
-    set_word(set);
-    byte(beside.com0);
-    byte(beside.duty);
-    byte(beside.inversion);
+    set_word(rt, set);
+    byte(rt, beside.com0);
+    byte(rt, beside.duty);
+    byte(rt, beside.inversion);
 }
 
 // Page, column, start line, contrast, resistor, power, bias, ADC, SHL, reverse, entire, on, indicator, its value, holder, pin
 // low, saved column, awaited, whether a data read would be fresh, and what stands beside them.
-pub(crate) fn show(registers: Registers) {
+pub(crate) fn show(rt: &impl Print, registers: Registers) {
     let mode = registers.modify_read;
     let awaited = registers.awaited;
     let beside = registers.beside;
-    byte(registers.page);
-    byte(registers.column.0);
-    byte(registers.start_line);
-    byte(registers.contrast);
-    byte(registers.resistor);
-    byte(registers.power);
-    show_flags(registers);
-    byte(registers.indicator_value);
-    byte(registers.holder);
-    flag(registers.pin_low);
-    saved(mode);
-    awaited_byte(awaited);
-    flag(registers.fresh);
-    show_beside(beside);
-    line();
+    byte(rt, registers.page);
+    byte(rt, registers.column.0);
+    byte(rt, registers.start_line);
+    byte(rt, registers.contrast);
+    byte(rt, registers.resistor);
+    byte(rt, registers.power);
+    show_flags(rt, registers);
+    byte(rt, registers.indicator_value);
+    byte(rt, registers.holder);
+    flag(rt, registers.pin_low);
+    saved(rt, mode);
+    awaited_byte(rt, awaited);
+    flag(rt, registers.fresh);
+    show_beside(rt, beside);
+    line(rt);
 }
 
-fn show_flags(registers: Registers) {
-    flag(registers.bias);
-    flag(registers.adc);
-    flag(registers.shl);
-    flag(registers.reverse);
-    flag(registers.entire);
-    flag(registers.on);
-    flag(registers.indicator);
+fn show_flags(rt: &impl Print, registers: Registers) {
+    flag(rt, registers.bias);
+    flag(rt, registers.adc);
+    flag(rt, registers.shl);
+    flag(rt, registers.reverse);
+    flag(rt, registers.entire);
+    flag(rt, registers.on);
+    flag(rt, registers.indicator);
 }
 
-fn status(byte: u8) {
-    told(b" status", byte);
+fn status(rt: &impl Print, byte: u8) {
+    told(rt, b" status", byte);
 }
 
-fn read(byte: u8, fresh: bool) {
-    told(b" read", byte);
+fn read(rt: &impl Print, byte: u8, fresh: bool) {
+    told(rt, b" read", byte);
     if fresh {
-        word(b" f");
+        word(rt, b" f");
     } else {
-        word(b" s");
+        word(rt, b" s");
     }
 }
 
 // A read prints its byte, a data read whether it is fresh, a refusal its number.
-fn tell(answer: Answer) {
+fn tell(rt: &impl Print, answer: Answer) {
     match answer {
         Answer::Done(_) => (),
-        Answer::Status(byte) => status(byte),
-        Answer::Read(_, byte, fresh) => read(byte, fresh),
-        Answer::Refused(number) => refused(number),
+        Answer::Status(byte) => status(rt, byte),
+        Answer::Read(_, byte, fresh) => read(rt, byte, fresh),
+        Answer::Refused(number) => refused(rt, number),
     }
 }
 
@@ -123,16 +123,24 @@ fn cycle_of(chip: Chip, registers: Registers, memory: &mut [u8], kind: u8, value
 }
 
 // One cycle: its kind and value as in a job file, and what it answers.
-fn play(chip: Chip, registers: Registers, memory: &mut [u8], kind: u8, value: u8) -> Registers {
-    pair(kind, value);
+fn play(
+    rt: &impl Print,
+    chip: Chip,
+    registers: Registers,
+    memory: &mut [u8],
+    kind: u8,
+    value: u8,
+) -> Registers {
+    pair(rt, kind, value);
     let answer = cycle_of(chip, registers, memory, kind, value);
-    tell(answer);
-    word(b",");
+    tell(rt, answer);
+    word(rt, b",");
     after(registers, answer)
 }
 
 // One cycle more, or with FF FF the end of a case: every register is printed, and the next case starts where this one did.
 fn turn(
+    rt: &impl Print,
     chip: Chip,
     start: Registers,
     registers: Registers,
@@ -141,18 +149,25 @@ fn turn(
     value: u8,
 ) -> Registers {
     if kind == 0xff {
-        show(registers);
+        show(rt, registers);
         return start;
     }
-    play(chip, registers, memory, kind, value)
+    play(rt, chip, registers, memory, kind, value)
 }
 
 // Plays cases, each from the same registers: their cycles as in a job file, kind and value, and FF FF after each case.
-pub(crate) fn run_on(chip: Chip, start: Registers, memory: &mut [u8], cases: &[u8]) {
+pub(crate) fn run_on(
+    rt: &impl Print,
+    chip: Chip,
+    start: Registers,
+    memory: &mut [u8],
+    cases: &[u8],
+) {
     let mut registers = start;
     let mut i = 0;
     while i < cases.len() / 2 {
         registers = turn(
+            rt,
             chip,
             start,
             registers,
@@ -165,9 +180,9 @@ pub(crate) fn run_on(chip: Chip, start: Registers, memory: &mut [u8], cases: &[u
 }
 
 // On the KS0713, with a memory of zeros.
-pub(crate) fn run(start: Registers, cases: &[u8]) {
+pub(crate) fn run(rt: &impl Print, start: Registers, cases: &[u8]) {
     let mut memory = zeros();
-    run_on(Chip::Ks0713, start, &mut memory, cases);
+    run_on(rt, Chip::Ks0713, start, &mut memory, cases);
 }
 
 // Page 3, column 87, start line 10, SHL 1, resistor 5, contrast 42, the indicator on with value 1.
@@ -217,47 +232,54 @@ pub(crate) fn altered() -> Registers {
 }
 
 // Each instruction, in the order of document 01's table.
-pub(crate) fn instructions() {
+pub(crate) fn instructions(rt: &impl Print) {
     // 00 to 7F: low and high bits of column, resistor, power, start line.
     run(
+        rt,
         prepared(),
         b"\x00\x0c\xff\xff\x00\x1a\xff\xff\x00\x26\xff\xff\x00\x2d\xff\xff\x00\x7f\xff\xff",
     );
     // 81 to A7: contrast next and its value, ADC, bias, entire, reverse.
     run(
+        rt,
         prepared(),
         b"\x00\x81\xff\xff\x00\x81\x00\xff\xff\xff\x00\xa1\xff\xff\x00\xa3\xff\xff\x00\xa5\xff\xff\x00\xa7\xff\xff",
     );
     // AC to CF: indicator off, on and its value, display, page, SHL.
     run(
+        rt,
         prepared(),
         b"\x00\xac\xff\xff\x00\xad\xff\xff\x00\xad\x00\xfe\xff\xff\x00\xaf\xff\xff\x00\xb9\xff\xff\x00\xc0\xff\xff",
     );
     // E0 to E3: modify-read on, and off again; reset; reset with 87 saved, and EE after it; nothing.
     run(
+        rt,
         prepared(),
         b"\x00\xe0\xff\xff\x00\xe0\x00\xee\xff\xff\x00\xe2\xff\xff\x00\xe0\x00\xe2\xff\xff\x00\xe0\x00\xe2\x00\xee\xff\xff\x00\xe3\xff\xff",
     );
 }
 
 // And the rest of the bus.
-pub(crate) fn cycles() {
+pub(crate) fn cycles(rt: &impl Print) {
     // AD from indicator off, and its value.
-    run(power_up(), b"\x00\xad\xff\xff\x00\xad\x00\x02\xff\xff");
+    run(rt, power_up(), b"\x00\xad\xff\xff\x00\xad\x00\x02\xff\xff");
     // Page 9: a write stores nothing and the column advances; what is then read back is the holder, then 0.
-    run(power_up(), b"\x00\xb9\x01\x5a\x03\x00\x03\x00\xff\xff");
+    run(rt, power_up(), b"\x00\xb9\x01\x5a\x03\x00\x03\x00\xff\xff");
     // Status at power-up, with ADC 1, with display on, with the pin low.
     run(
+        rt,
         power_up(),
         b"\x02\x00\xff\xff\x00\xa1\x02\x00\xff\xff\x00\xaf\x02\x00\xff\xff\x04\x00\x02\x00\xff\xff",
     );
     // Pin low, and then high; pin high alone, and then a data read, which tells the mark that it was handed.
     run(
+        rt,
         altered(),
         b"\x04\x00\xff\xff\x04\x00\x05\x00\xff\xff\x05\x00\xff\xff\x05\x00\x03\x00\xff\xff",
     );
     // A status read and a pin cycle with a value, and a kind above 5: no cycles.
     run(
+        rt,
         altered(),
         b"\x02\x01\xff\xff\x05\x01\xff\xff\x06\x00\xff\xff",
     );
@@ -265,10 +287,11 @@ pub(crate) fn cycles() {
 
 // E2 where every register is away from its start value: with the pin low; with contrast awaited, and once more with nothing awaited.
 // And as the indicator's byte.
-pub(crate) fn resets() {
+pub(crate) fn resets(rt: &impl Print) {
     run(
+        rt,
         altered(),
         b"\x00\xe2\xff\xff\x05\x00\x00\xe2\xff\xff\x05\x00\x00\xe2\x00\xe2\xff\xff",
     );
-    run(power_up(), b"\x00\xad\x00\xe2\xff\xff");
+    run(rt, power_up(), b"\x00\xad\x00\xe2\xff\xff");
 }

@@ -48,7 +48,7 @@ fn counted(lit: Lit, i: usize, lamp: u8) -> Lit
     }
 }
 
-pub(crate) fn summary(frame: &[u8])
+pub(crate) fn summary(rt: &impl Print, frame: &[u8])
     requires { length frame.now ≤ 1188 }
 {
     let mut lit = Lit {
@@ -62,90 +62,90 @@ pub(crate) fn summary(frame: &[u8])
         lit = counted(lit, i, lamp);
         i += 1;
     }
-    number(lit.count);
-    number(lit.first);
-    byte(lit.value);
+    number(rt, lit.count);
+    number(rt, lit.first);
+    byte(rt, lit.value);
 }
 
-fn drawn(name: &[u8], registers: Registers, memory: &[u8]) {
+fn drawn(rt: &impl Print, name: &[u8], registers: Registers, memory: &[u8]) {
     let mut out = zeros();
-    word(name);
+    word(rt, name);
     match frame(registers, memory, &mut out) {
-        Shown::Drawn => summary(&out),
-        Shown::Refused(n) => refused(n),
+        Shown::Drawn => summary(rt, &out),
+        Shown::Refused(n) => refused(rt, n),
     }
-    line();
+    line(rt);
 }
 
-pub(crate) fn frames() {
+pub(crate) fn frames(rt: &impl Print) {
     let memory = spotted();
-    shown(&memory);
+    shown(rt, &memory);
 }
 
 // On, at start line 60: line 0 is row 4, and the icon row does not move.
-fn shown(memory: &[u8]) {
+fn shown(rt: &impl Print, memory: &[u8]) {
     let mut registers = power_up();
-    drawn(b"off:", registers, memory);
+    drawn(rt, b"off:", registers, memory);
     registers.on = true;
     registers.start_line = 60;
-    drawn(b"start line 60:", registers, memory);
+    drawn(rt, b"start line 60:", registers, memory);
     registers.shl = true;
-    drawn(b"SHL:", registers, memory);
+    drawn(rt, b"SHL:", registers, memory);
     registers.adc = true;
-    drawn(b"ADC:", registers, memory);
+    drawn(rt, b"ADC:", registers, memory);
     registers.reverse = true;
-    drawn(b"reverse:", registers, memory);
+    drawn(rt, b"reverse:", registers, memory);
     registers.entire = true;
-    drawn(b"entire:", registers, memory);
+    drawn(rt, b"entire:", registers, memory);
     registers.contrast = 64;
-    drawn(b"contrast 64:", registers, memory);
+    drawn(rt, b"contrast 64:", registers, memory);
 }
 
-pub(crate) fn named(state: PowerState) {
+pub(crate) fn named(rt: &impl Print, state: PowerState) {
     match state {
-        PowerState::Normal => word(b" normal"),
-        PowerState::Sleep => word(b" sleep"),
-        PowerState::Standby => word(b" standby"),
+        PowerState::Normal => word(rt, b" normal"),
+        PowerState::Sleep => word(rt, b" sleep"),
+        PowerState::Standby => word(rt, b" standby"),
     }
 }
 
-fn power(name: &[u8], registers: Registers) {
-    word(name);
+fn power(rt: &impl Print, name: &[u8], registers: Registers) {
+    word(rt, name);
     match power_state(registers) {
-        Powered::State(state) => named(state),
-        Powered::Refused(n) => refused(n),
+        Powered::State(state) => named(rt, state),
+        Powered::Refused(n) => refused(rt, n),
     }
-    line();
+    line(rt);
 }
 
-fn volts(resistor: u8, contrast: u8) {
-    word(b"V0 at");
-    byte(resistor);
-    byte(contrast);
+fn volts(rt: &impl Print, resistor: u8, contrast: u8) {
+    word(rt, b"V0 at");
+    byte(rt, resistor);
+    byte(rt, contrast);
     match v0(resistor, contrast) {
-        Voltage::Fifteenths(n) => number(n as usize),
-        Voltage::Refused(n) => refused(n),
+        Voltage::Fifteenths(n) => number(rt, n as usize),
+        Voltage::Refused(n) => refused(rt, n),
     }
-    line();
+    line(rt);
 }
 
-pub(crate) fn powers() {
+pub(crate) fn powers(rt: &impl Print) {
     let mut registers = power_up();
-    power(b"off:", registers);
+    power(rt, b"off:", registers);
     registers.entire = true;
-    power(b"off and entire:", registers);
+    power(rt, b"off and entire:", registers);
     registers.indicator = true;
-    power(b"with the indicator:", registers);
+    power(rt, b"with the indicator:", registers);
     registers.on = true;
-    power(b"on:", registers);
+    power(rt, b"on:", registers);
 }
 
 // Every ratio at contrast 0, the highest V0, and both ways out of range.
-pub(crate) fn voltages() {
+pub(crate) fn voltages(rt: &impl Print) {
     for resistor in 0..8 {
-        volts(resistor, 0);
+        volts(rt, resistor, 0);
     }
-    volts(7, 63);
-    volts(8, 63);
-    volts(7, 64);
+    volts(rt, 7, 63);
+    volts(rt, 8, 63);
+    volts(rt, 7, 64);
 }

@@ -13,9 +13,9 @@ use registers::switch::{Switched, switch_set, switch_set_ks0717};
 use registers::{Beside, Column, Registers};
 
 // What stands above this line in the output is the old set's.
-pub(crate) fn heading() {
-    word(b"the new command set:");
-    line();
+pub(crate) fn heading(rt: &impl Print) {
+    word(rt, b"the new command set:");
+    line(rt);
 }
 
 // The new set, with all three away from their start values.
@@ -44,42 +44,48 @@ fn one_line() -> Registers {
     }
 }
 
-pub(crate) fn bytes() {
+pub(crate) fn bytes(rt: &impl Print) {
     let new = power_up_in(CommandSet::New);
     // Initial COM0: its byte awaited; 79; D0, which is 80, does nothing; 47 is 44, whose two low bits are free.
     run(
+        rt,
         new,
         b"\x00\x44\xff\xff\x00\x44\x00\x4f\xff\xff\x00\x44\x00\xd0\xff\xff\x00\x47\x00\x05\xff\xff",
     );
     // The duty: its byte awaited; 17; 16 and 82 do nothing.
     run(
+        rt,
         new,
         b"\x00\x48\xff\xff\x00\x48\x00\x11\xff\xff\x00\x48\x00\x10\xff\xff\x00\x48\x00\x52\xff\xff",
     );
     // Inversion: its byte awaited; 33 lines; E4 as its byte is 6 lines, and another E4 is back to frame inversion.
     run(
+        rt,
         new,
         b"\x00\x4c\xff\xff\x00\x4c\x00\x1f\xff\xff\x00\x4c\x00\xe4\xff\xff\x00\x4c\x00\xe4\x00\xe4\xff\xff",
     );
 }
 
-pub(crate) fn cycles() {
+pub(crate) fn cycles(rt: &impl Print) {
     // What else the old set assigns is refused with 4: a page, a column, 81, E0, E2, E3, 43.
     run(
+        rt,
         power_up_in(CommandSet::New),
         b"\x00\xb0\x00\x05\x00\x81\x00\xe0\x00\xe2\x00\xe3\x00\x43\xff\xff",
     );
     // Data and status as in the old set, with a byte awaited, which stays.
     run(
+        rt,
         power_up_in(CommandSet::New),
         b"\x00\x44\x01\x5a\x03\x00\x02\x00\xff\xff",
     );
     // Pin low, and then high: the three at their start values, and still the new set.
-    run(away(), b"\x04\x00\xff\xff\x04\x00\x05\x00\xff\xff");
+    run(rt, away(), b"\x04\x00\xff\xff\x04\x00\x05\x00\xff\xff");
     // The old set: 44 is a start line, and E4 is refused with 4.
-    run(power_up(), b"\x00\x44\xff\xff\x00\xe4\xff\xff");
+    run(rt, power_up(), b"\x00\x44\xff\xff\x00\xe4\xff\xff");
     // A byte of the other set awaited: 2.
     run(
+        rt,
         Registers {
             awaited: Awaited::Contrast,
             ..away()
@@ -87,6 +93,7 @@ pub(crate) fn cycles() {
         b"\x02\x00\xff\xff",
     );
     run(
+        rt,
         Registers {
             awaited: Awaited::Duty,
             ..power_up()
@@ -95,39 +102,58 @@ pub(crate) fn cycles() {
     );
 }
 
-fn tell(answer: Switched) {
+fn tell(rt: &impl Print, answer: Switched) {
     match answer {
-        Switched::Done(registers) => show(registers),
+        Switched::Done(registers) => show(rt, registers),
         Switched::Refused(n) => {
-            refused(n);
-            line();
+            refused(rt, n);
+            line(rt);
         }
     }
 }
 
 // A switch, and another one to the old set where there was none refused.
-fn there_and_back(registers: Registers) {
-    word(b"there and back");
+fn there_and_back(rt: &impl Print, registers: Registers) {
+    word(rt, b"there and back");
     match switch_set(registers, CommandSet::New) {
-        Switched::Done(there) => tell(switch_set(there, CommandSet::Old)),
-        Switched::Refused(n) => refused(n),
+        Switched::Done(there) => tell(rt, switch_set(there, CommandSet::Old)),
+        Switched::Refused(n) => refused(rt, n),
     }
 }
 
-fn switched(name: &[u8], registers: Registers, set: CommandSet) {
-    word(name);
-    tell(switch_set(registers, set));
+fn switched(rt: &impl Print, name: &[u8], registers: Registers, set: CommandSet) {
+    word(rt, name);
+    tell(rt, switch_set(registers, set));
 }
 
-pub(crate) fn switches() {
-    switched(b"to the new set", power_up(), CommandSet::New);
+// A column that the KS0717 has not: 2.
+fn too_far(rt: &impl Print) {
+    word(rt, b"the KS0717, column 128");
+    tell(
+        rt,
+        switch_set_ks0717(
+            Registers {
+                column: Column(128),
+                ..power_up_ks0717()
+            },
+            CommandSet::New,
+        ),
+    );
+}
+
+pub(crate) fn switches(rt: &impl Print) {
+    switched(rt, b"to the new set", power_up(), CommandSet::New);
     // With the pin low, the mark fresh and every register away from its start value.
-    there_and_back(Registers {
-        awaited: Awaited::Nothing,
-        ..altered()
-    });
-    switched(b"after 81", altered(), CommandSet::New);
+    there_and_back(
+        rt,
+        Registers {
+            awaited: Awaited::Nothing,
+            ..altered()
+        },
+    );
+    switched(rt, b"after 81", altered(), CommandSet::New);
     switched(
+        rt,
         b"after 44, to the set in force",
         Registers {
             awaited: Awaited::Com0,
@@ -137,6 +163,7 @@ pub(crate) fn switches() {
     );
     // 2 comes before 13.
     switched(
+        rt,
         b"COM0 awaited in the old set",
         Registers {
             awaited: Awaited::Com0,
@@ -144,55 +171,52 @@ pub(crate) fn switches() {
         },
         CommandSet::New,
     );
-    switched(b"one line", one_line(), CommandSet::New);
-    word(b"the KS0717, column 128");
-    tell(switch_set_ks0717(
-        Registers {
-            column: Column(128),
-            ..power_up_ks0717()
-        },
-        CommandSet::New,
-    ));
+    switched(rt, b"one line", one_line(), CommandSet::New);
+    too_far(rt);
 }
 
 // The frame of a memory of which byte 0 is 1, in the new set; and refused.
-fn drawn(name: &[u8], registers: Registers) {
+fn drawn(rt: &impl Print, name: &[u8], registers: Registers) {
     let mut memory = zeros();
     memory[0] = 1;
     let mut out = zeros();
-    word(name);
+    word(rt, name);
     match frame(registers, &memory, &mut out) {
-        Shown::Drawn => summary(&out),
-        Shown::Refused(n) => refused(n),
+        Shown::Drawn => summary(rt, &out),
+        Shown::Refused(n) => refused(rt, n),
     }
-    line();
+    line(rt);
 }
 
-pub(crate) fn glass() {
-    drawn(b"frame in the new set:", Registers { on: true, ..away() });
-    drawn(b"frame, one line:", one_line());
-    word(b"power state, one line:");
+pub(crate) fn glass(rt: &impl Print) {
+    drawn(
+        rt,
+        b"frame in the new set:",
+        Registers { on: true, ..away() },
+    );
+    drawn(rt, b"frame, one line:", one_line());
+    word(rt, b"power state, one line:");
     match power_state(one_line()) {
-        Powered::State(_) => word(b" given"),
-        Powered::Refused(n) => refused(n),
+        Powered::State(_) => word(rt, b" given"),
+        Powered::Refused(n) => refused(rt, n),
     }
-    line();
+    line(rt);
 }
 
-fn written(name: &[u8], added: Added) {
-    word(name);
+fn written(rt: &impl Print, name: &[u8], added: Added) {
+    word(rt, name);
     match write_added(added) {
-        Writing::WrittenAs(at) => byte(at),
-        Writing::Unwritten(n) => refused(n),
+        Writing::WrittenAs(at) => byte(rt, at),
+        Writing::Unwritten(n) => refused(rt, n),
     }
-    line();
+    line(rt);
 }
 
-pub(crate) fn writings() {
-    written(b"write duty next", Added::DutyNext);
-    written(b"write COM0 127", Added::Com0Value(127));
-    written(b"write COM0 128", Added::Com0Value(128));
-    written(b"write inversion 31", Added::InversionValue(31));
-    written(b"write inversion 32", Added::InversionValue(32));
-    written(b"write frame inversion", Added::FrameInversion);
+pub(crate) fn writings(rt: &impl Print) {
+    written(rt, b"write duty next", Added::DutyNext);
+    written(rt, b"write COM0 127", Added::Com0Value(127));
+    written(rt, b"write COM0 128", Added::Com0Value(128));
+    written(rt, b"write inversion 31", Added::InversionValue(31));
+    written(rt, b"write inversion 32", Added::InversionValue(32));
+    written(rt, b"write frame inversion", Added::FrameInversion);
 }

@@ -1,45 +1,45 @@
 // Words and numbers on standard output.
 
-pub(crate) fn word(text: &[u8]) {
-    io::write_all(1, text);
+pub(crate) fn word(rt: &impl Print, text: &[u8]) {
+    let _ = rt.write_all(text);
 }
 
 // A space and a number.
-pub(crate) fn number(n: usize) {
-    io::write_all(1, b" ");
-    io::print_decimal(1, n as u64);
+pub(crate) fn number(rt: &impl Print, n: usize) {
+    let _ = rt.write_all(b" ");
+    let _ = rt.print(n);
 }
 
-pub(crate) fn byte(n: u8) {
-    number(n as usize);
+pub(crate) fn byte(rt: &impl Print, n: u8) {
+    number(rt, n as usize);
 }
 
 // A cycle as its two bytes in a job file, in hex.
-pub(crate) fn pair(kind: u8, value: u8) {
-    io::print_hex(1, kind as u64, 2);
-    io::write_all(1, b" ");
-    io::print_hex(1, value as u64, 2);
+pub(crate) fn pair(rt: &impl Print, kind: u8, value: u8) {
+    let _ = print!(rt; "{kind:02x}");
+    let _ = rt.write_all(b" ");
+    let _ = print!(rt; "{value:02x}");
 }
 
 // A space and a 0 or 1.
-pub(crate) fn flag(on: bool) {
+pub(crate) fn flag(rt: &impl Print, on: bool) {
     if on {
-        number(1);
+        number(rt, 1);
     } else {
-        number(0);
+        number(rt, 0);
     }
 }
 
-pub(crate) fn line() {
-    io::write_all(1, b"\n");
+pub(crate) fn line(rt: &impl Print) {
+    let _ = rt.write_all(b"\n");
 }
 
 // A word and a number.
-pub(crate) fn told(text: &[u8], n: u8) {
-    word(text);
-    byte(n);
+pub(crate) fn told(rt: &impl Print, text: &[u8], n: u8) {
+    word(rt, text);
+    byte(rt, n);
 }
 
-pub(crate) fn refused(n: u8) {
-    told(b" refused", n);
+pub(crate) fn refused(rt: &impl Print, n: u8) {
+    told(rt, b" refused", n);
 }

@@ -3,56 +3,66 @@ ghost use Rattle.std.specs.Prelude.{◌≡◌, length};
 
 use crate::buffers::zeros;
 use crate::print::{byte, line, number, refused, word};
-use crate::streams::answer;
+use crate::stream_cases::answer;
 use instructions::added::CommandSet;
 use recorder::job::write_job;
 use recorder::text::{Lines, read_text, write_text};
 
-fn lines(answer: Lines) {
+fn lines(rt: &impl Print, answer: Lines) {
     match answer {
         Lines::Cycles(n) => {
-            word(b" cycles");
-            number(n);
+            word(rt, b" cycles");
+            number(rt, n);
         }
         Lines::BadLine(n) => {
-            word(b" bad line");
-            number(n);
+            word(rt, b" bad line");
+            number(rt, n);
         }
-        Lines::Refused(n) => refused(n),
+        Lines::Refused(n) => refused(rt, n),
     }
-    line();
+    line(rt);
 }
 
 // A text, read into room for so many bytes.
-fn read(what: &[u8], text: &[u8], room: &mut [u8]) {
-    word(what);
-    word(b" into");
-    number(room.len());
-    lines(read_text(text, room));
+fn read(rt: &impl Print, what: &[u8], text: &[u8], room: &mut [u8]) {
+    word(rt, what);
+    word(rt, b" into");
+    number(rt, room.len());
+    lines(rt, read_text(text, room));
 }
 
 // The first n bytes of a text, where it has so many.
-fn read_front(what: &[u8], text: &[u8], n: usize, room: &mut [u8]) {
+fn read_front(rt: &impl Print, what: &[u8], text: &[u8], n: usize, room: &mut [u8]) {
     if n <= text.len() {
-        read(what, &text[0..n], room);
+        read(rt, what, &text[0..n], room);
     }
 }
 
 // Good texts: none, and one with all six letters; then what makes a line bad.
-pub(crate) fn texts() {
+pub(crate) fn texts(rt: &impl Print) {
     let mut room = [0u8; 12];
     let mut less = [0u8; 11];
-    read(b"no lines", b"", &mut room);
-    read(b"all six letters", b"i 00\nd ff\ns\nr\nl\nh\n", &mut room);
-    read(b"all six letters", b"i 00\nd ff\ns\nr\nl\nh\n", &mut less);
-    read(b"no newline", b"i b2", &mut room);
-    read(b"an empty line", b"s\n\n", &mut room);
-    read(b"upper case", b"i B2\n", &mut room);
-    read(b"a value for s", b"s 00\n", &mut room);
-    read(b"two blanks", b"i  b2\n", &mut room);
-    read(b"a carriage return", b"s\nr\r\n", &mut room);
-    read(b"another letter", b"s\ns\nx\n", &mut room);
-    read(b"one digit", b"d 7\n", &mut room);
+    read(rt, b"no lines", b"", &mut room);
+    read(
+        rt,
+        b"all six letters",
+        b"i 00\nd ff\ns\nr\nl\nh\n",
+        &mut room,
+    );
+    read(
+        rt,
+        b"all six letters",
+        b"i 00\nd ff\ns\nr\nl\nh\n",
+        &mut less,
+    );
+    read(rt, b"no newline", b"i b2", &mut room);
+    read(rt, b"an empty line", b"s\n\n", &mut room);
+    read(rt, b"upper case", b"i B2\n", &mut room);
+    read(rt, b"a value for s", b"s 00\n", &mut room);
+    read(rt, b"two blanks", b"i  b2\n", &mut room);
+    read(rt, b"a carriage return", b"s\nr\r\n", &mut room);
+    read(rt, b"another letter", b"s\ns\nx\n", &mut room);
+    read(rt, b"one digit", b"d 7\n", &mut room);
 }
 
 // 16,001 status reads as text, but for their newlines, and a letter.
@@ -84,34 +94,34 @@ fn end_lines(text: &mut [u8]) {
 }
 
 // As many lines as a job has cycles, one more, and one more that is bad.
-pub(crate) fn long_texts() {
+pub(crate) fn long_texts(rt: &impl Print) {
     let mut text = letters();
     let mut cycles = cycles_room();
     let mut less = less_room();
     end_lines(&mut text);
-    read_front(b"16,000 lines", &text, 32000, &mut cycles);
-    read_front(b"16,000 lines", &text, 32000, &mut less);
-    read_front(b"16,001 lines", &text, 32002, &mut cycles);
-    read_front(b"and one that is bad", &text, 32003, &mut cycles);
+    read_front(rt, b"16,000 lines", &text, 32000, &mut cycles);
+    read_front(rt, b"16,000 lines", &text, 32000, &mut less);
+    read_front(rt, b"16,001 lines", &text, 32002, &mut cycles);
+    read_front(rt, b"and one that is bad", &text, 32003, &mut cycles);
 }
 
 // Cycles, written as text into room for so many bytes.
-fn text_of(what: &[u8], cycles: &[u8], room: &mut [u8]) {
-    word(what);
-    word(b" as text into");
-    number(room.len());
-    answer(write_text(cycles, room));
+fn text_of(rt: &impl Print, what: &[u8], cycles: &[u8], room: &mut [u8]) {
+    word(rt, what);
+    word(rt, b" as text into");
+    number(rt, room.len());
+    answer(rt, write_text(cycles, room));
 }
 
 // One instruction and one status read; a last odd byte is no cycle.
-pub(crate) fn writings() {
+pub(crate) fn writings(rt: &impl Print) {
     let mut room = [0u8; 7];
     let mut less = [0u8; 6];
-    text_of(b"two cycles", b"\x00\xb2\x02\x00", &mut room);
-    text_of(b"two cycles", b"\x00\xb2\x02\x00", &mut less);
-    text_of(b"and an odd byte", b"\x00\xb2\x02\x00\x06", &mut room);
-    text_of(b"kind 6", b"\x06\x00", &mut room);
-    text_of(b"a status read of 01", b"\x02\x01", &mut room);
+    text_of(rt, b"two cycles", b"\x00\xb2\x02\x00", &mut room);
+    text_of(rt, b"two cycles", b"\x00\xb2\x02\x00", &mut less);
+    text_of(rt, b"and an odd byte", b"\x00\xb2\x02\x00\x06", &mut room);
+    text_of(rt, b"kind 6", b"\x06\x00", &mut room);
+    text_of(rt, b"a status read of 01", b"\x02\x01", &mut room);
 }
 
 fn two_pictures() -> [u8; 2376]
@@ -134,6 +144,7 @@ fn three_less_a_byte() -> [u8; 3563]
 
 // A job of a command set, written into room for so many bytes.
 fn job_of(
+    rt: &impl Print,
     what: &[u8],
     set: CommandSet,
     cycles: &[u8],
@@ -141,29 +152,54 @@ fn job_of(
     pictures: &[u8],
     room: &mut [u8],
 ) {
-    word(what);
-    word(b" as a job into");
-    number(room.len());
-    answer(write_job(set, cycles, count, pictures, room));
+    word(rt, what);
+    word(rt, b" as a job into");
+    number(rt, room.len());
+    answer(rt, write_job(set, cycles, count, pictures, room));
 }
 
 // No cycles and one picture, with room and without; and a cycle that is none.
-pub(crate) fn jobs() {
+pub(crate) fn jobs(rt: &impl Print) {
     let picture = zeros();
     let mut room = [0u8; 1196];
     let mut less = [0u8; 1195];
-    job_of(b"one picture", CommandSet::Old, b"", 1, &picture, &mut room);
-    job_of(b"one picture", CommandSet::Old, b"", 1, &picture, &mut less);
-    job_of(b"kind 6", CommandSet::Old, b"\x06\x00", 0, b"", &mut room);
+    job_of(
+        rt,
+        b"one picture",
+        CommandSet::Old,
+        b"",
+        1,
+        &picture,
+        &mut room,
+    );
+    job_of(
+        rt,
+        b"one picture",
+        CommandSet::Old,
+        b"",
+        1,
+        &picture,
+        &mut less,
+    );
+    job_of(
+        rt,
+        b"kind 6",
+        CommandSet::Old,
+        b"\x06\x00",
+        0,
+        b"",
+        &mut room,
+    );
 }
 
 // Three pictures, three of which one is a byte short, and one that is told as two.
-pub(crate) fn picture_counts() {
+pub(crate) fn picture_counts(rt: &impl Print) {
     let picture = zeros();
     let pictures = three_pictures();
     let short = three_less_a_byte();
     let mut room = [0u8; 1196];
     job_of(
+        rt,
         b"three pictures",
         CommandSet::Old,
         b"",
@@ -172,6 +208,7 @@ pub(crate) fn picture_counts() {
         &mut room,
     );
     job_of(
+        rt,
         b"three, a byte short",
         CommandSet::Old,
         b"",
@@ -180,6 +217,7 @@ pub(crate) fn picture_counts() {
         &mut room,
     );
     job_of(
+        rt,
         b"one, told as two",
         CommandSet::Old,
         b"",
@@ -202,12 +240,13 @@ fn job_room() -> [u8; 34384]
 }
 
 // As many cycles and pictures as a job has, which is the longest; and a cycle more.
-pub(crate) fn long_jobs() {
+pub(crate) fn long_jobs(rt: &impl Print) {
     let cycles = cycles_room();
     let many = many_cycles();
     let pictures = two_pictures();
     let mut room = job_room();
     job_of(
+        rt,
         b"the longest",
         CommandSet::Old,
         &cycles,
@@ -215,15 +254,24 @@ pub(crate) fn long_jobs() {
         &pictures,
         &mut room,
     );
-    job_of(b"16,001 cycles", CommandSet::Old, &many, 0, b"", &mut room);
+    job_of(
+        rt,
+        b"16,001 cycles",
+        CommandSet::Old,
+        &many,
+        0,
+        b"",
+        &mut room,
+    );
 }
 
 // The new command set: one picture, and two, which are one too many.
-pub(crate) fn new_jobs() {
+pub(crate) fn new_jobs(rt: &impl Print) {
     let picture = zeros();
     let pictures = two_pictures();
     let mut room = [0u8; 1196];
     job_of(
+        rt,
         b"one picture, new",
         CommandSet::New,
         b"",
@@ -231,11 +279,12 @@ pub(crate) fn new_jobs() {
         &picture,
         &mut room,
     );
-    word(b"its count field:");
-    byte(room[4]);
-    byte(room[5]);
-    line();
+    word(rt, b"its count field:");
+    byte(rt, room[4]);
+    byte(rt, room[5]);
+    line(rt);
     job_of(
+        rt,
         b"two pictures, new",
         CommandSet::New,
         b"",

@@ -123,17 +123,17 @@ fn comes_back(file: &[u8], job: Job) -> bool
 }
 
 // Writes `again` for a good job that comes back; one that does not, or that is not good, is told as such.
-pub(crate) fn again(file: &[u8]) {
+pub(crate) fn again(rt: &impl Print, file: &[u8]) {
     match read_header(file) {
         Header::Good(job) => {
             if comes_back(file, job) {
-                io::write_all(1, b"again\n");
+                let _ = rt.write_all(b"again\n");
                 return;
             }
-            io::write_all(1, b"another file\n");
+            let _ = rt.write_all(b"another file\n");
         }
         Header::Refused(_) => {
-            io::write_all(1, b"no job\n");
+            let _ = rt.write_all(b"no job\n");
         }
     }
 }

@@ -8,7 +8,10 @@ ghost use Rattle.std.specs.Prelude.{◌≡◌, ◌≤◌, length};
 ghost use Rattle.jobs.specs.Play.{longest};
 
 use crate::again::again;
+use input::read_full;
 use jobs::play::{Played, play};
+use std::fs;
+use std::rt::Files;
 
 // Room for the text of any file, in a function of its own, so that its bytes are not computed where it is used.
 fn room() -> [u8; 210000]
@@ -25,109 +28,107 @@ fn file_room() -> [u8; 70000]
 }
 
 // The text of a file.
-fn tell(file: &[u8], text: &mut [u8]) {
+fn tell(rt: &impl Print, file: &[u8], text: &mut [u8]) {
     match play(file, text) {
         Played::Text(n) => {
             if n <= text.len() {
-                io::write_all(1, &text[0..n]);
+                let _ = rt.write_all(&text[0..n]);
             }
         }
         Played::Refused(_) => {
-            io::write_all(1, b"no room\n");
+            let _ = rt.write_all(b"no room\n");
         }
     }
 }
 
 // The name of an example, and its file: how many bytes it has, or `too long` or `missing`, and none.
-fn read_file(name: &[u8], file: &mut [u8]) -> usize
+fn read_file(rt: &(impl Files + Print), name: &str, file: &mut [u8]) -> usize
     ensures { result ≤ length file.new }
 {
-    io::write_all(1, name);
-    io::write_all(1, b"\n");
-    let from = os::open_read(name);
-    if from < 0 {
-        io::write_all(1, b"missing\n");
+    let _ = rt.print(name);
+    let _ = rt.write_all(b"\n");
+    let Ok(mut from) = fs::open(rt, name) else {
+        let _ = rt.write_all(b"missing\n");
         return 0;
-    }
-    let n = io::read_full(from, file);
-    libc::close(from);
+    };
+    let n = read_full(&mut from, file);
     if n == file.len() {
-        io::write_all(1, b"too long\n");
+        let _ = rt.write_all(b"too long\n");
         return 0;
     }
     n
 }
 
 // An example with its text: how many bytes it has.
-fn shown(name: &[u8], file: &mut [u8]) -> usize
+fn shown(rt: &(impl Files + Print), name: &str, file: &mut [u8]) -> usize
     ensures { result ≤ length file.new }
 {
-    let n = read_file(name, file);
+    let n = read_file(rt, name, file);
     let mut text = room();
-    tell(&file[0..n], &mut text);
+    tell(rt, &file[0..n], &mut text);
     n
 }
 
 // And whether it comes back.
-fn shown_again(name: &[u8], file: &mut [u8]) {
-    let n = shown(name, file);
-    again(&file[0..n]);
+fn shown_again(rt: &(impl Files + Print), name: &str, file: &mut [u8]) {
+    let n = shown(rt, name, file);
+    again(rt, &file[0..n]);
 }
 
-fn bad_example(name: &[u8]) {
+fn bad_example(rt: &(impl Files + Print), name: &str) {
     let mut file = file_room();
-    shown(name, &mut file);
+    shown(rt, name, &mut file);
 }
 
-fn example(name: &[u8]) {
+fn example(rt: &(impl Files + Print), name: &str) {
     let mut file = file_room();
-    shown_again(name, &mut file);
+    shown_again(rt, name, &mut file);
 }
 
 // What the player shows.
-fn good() {
-    example(b"worked.job");
-    example(b"dummy-read.job");
-    example(b"marks.job");
-    example(b"modify-read.job");
-    example(b"reset.job");
-    example(b"restart.job");
-    example(b"settings.job");
-    example(b"redraw-dark.job");
-    example(b"redraw-shifted.job");
-    example(b"page-nine.job");
-    example(b"refused.job");
-    example(b"update.job");
-    example(b"page-first.job");
-    example(b"screen.job");
-    example(b"corners.job");
-    example(b"unwritten.job");
-    example(b"end-1.job");
-    example(b"end-2.job");
-    example(b"end-3.job");
-    example(b"ks0759.job");
-    example(b"new-set.job");
+fn good(rt: &(impl Files + Print)) {
+    example(rt, "worked.job");
+    example(rt, "dummy-read.job");
+    example(rt, "marks.job");
+    example(rt, "modify-read.job");
+    example(rt, "reset.job");
+    example(rt, "restart.job");
+    example(rt, "settings.job");
+    example(rt, "redraw-dark.job");
+    example(rt, "redraw-shifted.job");
+    example(rt, "page-nine.job");
+    example(rt, "refused.job");
+    example(rt, "update.job");
+    example(rt, "page-first.job");
+    example(rt, "screen.job");
+    example(rt, "corners.job");
+    example(rt, "unwritten.job");
+    example(rt, "end-1.job");
+    example(rt, "end-2.job");
+    example(rt, "end-3.job");
+    example(rt, "ks0759.job");
+    example(rt, "new-set.job");
 }
 
 // Damaged files, of each kind.
-fn bad() {
-    bad_example(b"empty.job");
-    bad_example(b"seven-bytes.job");
-    bad_example(b"many-cycles.job");
-    bad_example(b"wrapped.job");
-    bad_example(b"cycle-offset.job");
-    bad_example(b"picture-offset.job");
-    bad_example(b"three-pictures.job");
-    bad_example(b"byte-short.job");
-    bad_example(b"byte-long.job");
-    bad_example(b"kind-six.job");
-    bad_example(b"status-value.job");
-    bad_example(b"pin-value.job");
-    bad_example(b"two-new.job");
-    bad_example(b"field-512.job");
+fn bad(rt: &(impl Files + Print)) {
+    bad_example(rt, "empty.job");
+    bad_example(rt, "seven-bytes.job");
+    bad_example(rt, "many-cycles.job");
+    bad_example(rt, "wrapped.job");
+    bad_example(rt, "cycle-offset.job");
+    bad_example(rt, "picture-offset.job");
+    bad_example(rt, "three-pictures.job");
+    bad_example(rt, "byte-short.job");
+    bad_example(rt, "byte-long.job");
+    bad_example(rt, "kind-six.job");
+    bad_example(rt, "status-value.job");
+    bad_example(rt, "pin-value.job");
+    bad_example(rt, "two-new.job");
+    bad_example(rt, "field-512.job");
 }
 
-fn main() {
-    good();
-    bad();
+fn main(rt: HostRuntime) {
+    good(&rt);
+    bad(&rt);
 }

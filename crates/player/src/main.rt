@@ -4,7 +4,7 @@
 ghost use Rattle.std.specs.Prelude.{◌≡◌, ◌≤◌, length, take};
 ghost use Rattle.jobs.specs.Play.{longest, text_of};
 
-use input::read_all;
+use input::{large_buffer, read_all};
 use jobs::play::{Played, play};
 
 // Room for the text of any file. It stands in a function of its own, so that its bytes are not computed where it is used.
@@ -26,31 +26,25 @@ fn play_text(file: &[u8], text: &mut [u8]) -> usize
 }
 
 // Plays the file into the text and writes it out.
-fn write_text(file: &[u8], text: &mut [u8]) -> bool
+fn write_text(rt: &impl Print, file: &[u8], text: &mut [u8]) -> bool
     requires { longest ≤ length text.old }
     ensures { take (length (text_of file.now)) text.new ≡ text_of file.now }
 {
     let n = play_text(file, text);
-    io::write_all(libc::STDOUT_FILENO, &text[0..n])
+    rt.write_all(&text[0..n]).is_ok()
 }
 
 // 65,536 bytes are more than any good job has, so a file that is cut there is refused with 8, as the whole of it is.
-fn main() {
-    let mut file = io::large_buffer();
+fn main(rt: HostRuntime) {
+    let mut file = large_buffer();
     let mut text = room();
-    let input = read_all(&mut file);
+    let input = read_all(&rt, &mut file);
     if input.failed {
-        io::write_all(
-            libc::STDERR_FILENO,
-            b"player: standard input cannot be read\n",
-        );
+        let _ = rt.eprint("player: standard input cannot be read\n");
         return;
     }
-    let written = write_text(&file[..input.count], &mut text);
+    let written = write_text(&rt, &file[..input.count], &mut text);
     if !written {
-        io::write_all(
-            libc::STDERR_FILENO,
-            b"player: standard output cannot be written\n",
-        );
+        let _ = rt.eprint("player: standard output cannot be written\n");
     }
 }

@@ -31,91 +31,97 @@ fn memory() -> [u8; 1188] {
     memory
 }
 
-pub(crate) fn told(count: Count) {
+pub(crate) fn told(rt: &impl Print, count: Count) {
     match count {
-        Count::Bytes(n) => say(b" ", n),
-        Count::Refused(n) => say_refused(n),
+        Count::Bytes(n) => say(rt, b" ", n),
+        Count::Refused(n) => say_refused(rt, n),
     }
 }
 
 // One page's group: its length is printed, and its cycles are played.
-fn send(registers: Registers, memory: &mut [u8], page: usize) -> Registers {
+fn send(rt: &impl Print, registers: Registers, memory: &mut [u8], page: usize) -> Registers {
     let before = recorded();
     let after = wanted();
     let mut out = [0; 135];
     let mut kinds = [0; 135];
     match page_group(&before, &after, page, &mut out, &mut kinds) {
         Count::Bytes(n) => {
-            say(b" ", n);
-            play(registers, memory, &out, &kinds, n)
+            say(rt, b" ", n);
+            play(rt, registers, memory, &out, &kinds, n)
         }
         Count::Refused(n) => {
-            say_refused(n);
+            say_refused(rt, n);
             registers
         }
     }
 }
 
 // The memory after the whole update.
-fn updated(memory: &mut [u8]) {
+fn updated(rt: &impl Print, memory: &mut [u8]) {
     let before = recorded();
     let after = wanted();
     let mut out = [0; 1215];
     let mut kinds = [0; 1215];
     match update(&before, &after, &mut out, &mut kinds) {
         Count::Bytes(n) => {
-            play(power_up(), memory, &out, &kinds, n);
+            play(rt, power_up(), memory, &out, &kinds, n);
         }
-        Count::Refused(n) => say_refused(n),
+        Count::Refused(n) => say_refused(rt, n),
     }
 }
 
-fn heading(first: usize, second: usize, third: usize) {
-    say(b"pages ", first);
-    say(b" ", second);
-    say(b" ", third);
-    words(b": bytes");
+fn heading(rt: &impl Print, first: usize, second: usize, third: usize) {
+    say(rt, b"pages ", first);
+    say(rt, b" ", second);
+    say(rt, b" ", third);
+    words(rt, b": bytes");
 }
 
-fn send_three(memory: &mut [u8], first: usize, second: usize, third: usize) -> Registers {
-    let one = send(power_up(), memory, first);
-    let two = send(one, memory, second);
-    send(two, memory, third)
+fn send_three(
+    rt: &impl Print,
+    memory: &mut [u8],
+    first: usize,
+    second: usize,
+    third: usize,
+) -> Registers {
+    let one = send(rt, power_up(), memory, first);
+    let two = send(rt, one, memory, second);
+    send(rt, two, memory, third)
 }
 
-fn in_order(first: usize, second: usize, third: usize) {
+fn in_order(rt: &impl Print, first: usize, second: usize, third: usize) {
     let mut groups = memory();
     let mut whole = memory();
-    heading(first, second, third);
-    let registers = send_three(&mut groups, first, second, third);
-    updated(&mut whole);
-    same(&groups, &whole);
-    stands(registers);
-    words(b"\n");
+    heading(rt, first, second, third);
+    let registers = send_three(rt, &mut groups, first, second, third);
+    updated(rt, &mut whole);
+    same(rt, &groups, &whole);
+    stands(rt, registers);
+    words(rt, b"\n");
 }
 
-pub(crate) fn three_orders() {
+pub(crate) fn three_orders(rt: &impl Print) {
     let before = recorded();
     let after = wanted();
-    words(b"the update has");
-    told(update_length(&before, &after));
-    words(b" bytes\n");
-    in_order(0, 3, 8);
-    in_order(8, 3, 0);
-    in_order(3, 8, 0);
+    words(rt, b"the update has");
+    told(rt, update_length(&before, &after));
+    words(rt, b" bytes\n");
+    in_order(rt, 0, 3, 8);
+    in_order(rt, 8, 3, 0);
+    in_order(rt, 3, 8, 0);
 }
 
 // Fewer groups than the update has, and a page that does not differ: the memory is another, and the chip stands elsewhere.
-pub(crate) fn too_few() {
-    in_order(8, 5, 3);
+pub(crate) fn too_few(rt: &impl Print) {
+    in_order(rt, 8, 5, 3);
 }
 
 // No page differs: there is no group, and no output is needed.
-pub(crate) fn equal_pictures() {
+pub(crate) fn equal_pictures(rt: &impl Print) {
     let picture = recorded();
     let mut none: [u8; 0] = [];
     let mut kinds: [u8; 0] = [];
-    words(b"equal pictures, outputs of 0:");
-    told(page_group(&picture, &picture, 3, &mut none, &mut kinds));
-    words(b" bytes\n");
+    words(rt, b"equal pictures, outputs of 0:");
+    told(rt, page_group(&picture, &picture, 3, &mut none, &mut kinds));
+    words(rt, b" bytes\n");
 }

@@ -6,12 +6,12 @@ mod play;
 mod refusals;
 mod say;
 
-fn main() {
-    groups::three_orders();
-    groups::too_few();
-    groups::equal_pictures();
-    refusals::pages();
-    refusals::room();
-    refusals::sizes();
-    refusals::second_chip();
+fn main(rt: HostRuntime) {
+    groups::three_orders(&rt);
+    groups::too_few(&rt);
+    groups::equal_pictures(&rt);
+    refusals::pages(&rt);
+    refusals::room(&rt);
+    refusals::sizes(&rt);
+    refusals::second_chip(&rt);
 }

@@ -4,7 +4,13 @@ use bus::run::{Ran, run};
 use registers::Registers;
 
 // One cycle. Where it is refused its number is printed, which no group should come to.
-fn turn(registers: Registers, memory: &mut [u8], kind: u8, value: u8) -> Registers {
+fn turn(
+    rt: &impl Print,
+    registers: Registers,
+    memory: &mut [u8],
+    kind: u8,
+    value: u8,
+) -> Registers {
     let cycle = [kind, value];
     let mut numbers = [0; 1];
     let mut reads = [0; 1];
@@ -21,12 +27,12 @@ fn turn(registers: Registers, memory: &mut [u8], kind: u8, value: u8) -> Registe
     ) {
         Ran::After(after) => {
             if numbers[0] != 0 {
-                say_refused(numbers[0]);
+                say_refused(rt, numbers[0]);
             }
             after
         }
         Ran::Refused(number) => {
-            say_refused(number);
+            say_refused(rt, number);
             registers
         }
     }
@@ -34,6 +40,7 @@ fn turn(registers: Registers, memory: &mut [u8], kind: u8, value: u8) -> Registe
 
 // The first n cycles of a stream, of which both outputs hold as many.
 pub(crate) fn play(
+    rt: &impl Print,
     start: Registers,
     memory: &mut [u8],
     out: &[u8],
@@ -49,7 +56,7 @@ pub(crate) fn play(
     let mut registers = start;
     let mut i = 0;
     while i < n {
-        registers = turn(registers, memory, kinds[i], out[i]);
+        registers = turn(rt, registers, memory, kinds[i], out[i]);
         i += 1;
     }
     registers
@@ -69,15 +76,15 @@ fn equal(one: &[u8], other: &[u8]) -> bool {
 }
 
 // Whether two memories are the same byte for byte.
-pub(crate) fn same(one: &[u8], other: &[u8]) {
+pub(crate) fn same(rt: &impl Print, one: &[u8], other: &[u8]) {
     if equal(one, other) {
-        words(b", the update's memory");
+        words(rt, b", the update's memory");
     } else {
-        words(b", another memory");
+        words(rt, b", another memory");
     }
 }
 
-pub(crate) fn stands(registers: Registers) {
-    say(b", page ", registers.page as usize);
-    say(b" column ", registers.column.0 as usize);
+pub(crate) fn stands(rt: &impl Print, registers: Registers) {
+    say(rt, b", page ", registers.page as usize);
+    say(rt, b" column ", registers.column.0 as usize);
 }

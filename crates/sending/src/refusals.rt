@@ -4,65 +4,71 @@ use crate::say::{say, words};
 use planner::group::{page_group, page_group_ks0717};
 
 // A page, into outputs as they are lent.
-fn into(page: usize, out: &mut [u8], kinds: &mut [u8]) {
+fn into(rt: &impl Print, page: usize, out: &mut [u8], kinds: &mut [u8]) {
     let before = recorded();
     let after = wanted();
-    say(b"page ", page);
-    say(b" into ", out.len());
-    say(b" and ", kinds.len());
-    words(b":");
-    told(page_group(&before, &after, page, out, kinds));
-    words(b"\n");
+    say(rt, b"page ", page);
+    say(rt, b" into ", out.len());
+    say(rt, b" and ", kinds.len());
+    words(rt, b":");
+    told(rt, page_group(&before, &after, page, out, kinds));
+    words(rt, b"\n");
 }
 
 // Page 8 has a group, page 9 none: 6, before 5.
-pub(crate) fn pages() {
+pub(crate) fn pages(rt: &impl Print) {
     let mut out = [0; 135];
     let mut kinds = [0; 135];
-    into(8, &mut out, &mut kinds);
-    into(9, &mut out, &mut kinds);
+    into(rt, 8, &mut out, &mut kinds);
+    into(rt, 9, &mut out, &mut kinds);
     let mut short = [0; 3];
-    into(9, &mut short, &mut kinds);
+    into(rt, 9, &mut short, &mut kinds);
 }
 
 // The group of page 8 has 4 bytes: either output of 3 is too short, both of 4 are enough.
-pub(crate) fn room() {
+pub(crate) fn room(rt: &impl Print) {
     let mut three = [0; 3];
     let mut four = [0; 4];
     let mut kinds = [0; 4];
-    into(8, &mut three, &mut kinds);
-    into(8, &mut four, &mut three);
-    into(8, &mut four, &mut kinds);
+    into(rt, 8, &mut three, &mut kinds);
+    into(rt, 8, &mut four, &mut three);
+    into(rt, 8, &mut four, &mut kinds);
 }
 
-fn sized(name: &[u8], before: &[u8], after: &[u8]) {
+fn sized(rt: &impl Print, name: &[u8], before: &[u8], after: &[u8]) {
     let mut out = [0; 135];
     let mut kinds = [0; 135];
-    words(name);
-    told(page_group(before, after, 9, &mut out, &mut kinds));
-    words(b"\n");
+    words(rt, name);
+    told(rt, page_group(before, after, 9, &mut out, &mut kinds));
+    words(rt, b"\n");
 }
 
 // Either picture of another size: 1, before 6.
-pub(crate) fn sizes() {
+pub(crate) fn sizes(rt: &impl Print) {
     let picture = recorded();
     let short = [0; 1187];
     let long = [0; 1189];
-    sized(b"a recorded picture of 1,187:", &short, &picture);
-    sized(b"a wanted picture of 1,189:", &picture, &long);
+    sized(rt, b"a recorded picture of 1,187:", &short, &picture);
+    sized(rt, b"a wanted picture of 1,189:", &picture, &long);
 }
 
 // Every column of a page: 103 bytes; and the other chip's pictures are refused.
-pub(crate) fn second_chip() {
+pub(crate) fn second_chip(rt: &impl Print) {
     let before = [0; 900];
     let after = [255; 900];
     let mut out = [0; 103];
     let mut kinds = [0; 103];
-    words(b"the KS0717, page 4, every column differs:");
-    told(page_group_ks0717(&before, &after, 4, &mut out, &mut kinds));
-    words(b"\n");
+    words(rt, b"the KS0717, page 4, every column differs:");
+    told(
+        rt,
+        page_group_ks0717(&before, &after, 4, &mut out, &mut kinds),
+    );
+    words(rt, b"\n");
     let other = recorded();
-    words(b"the KS0717 with a picture of 1,188:");
-    told(page_group_ks0717(&before, &other, 4, &mut out, &mut kinds));
-    words(b"\n");
+    words(rt, b"the KS0717 with a picture of 1,188:");
+    told(
+        rt,
+        page_group_ks0717(&before, &other, 4, &mut out, &mut kinds),
+    );
+    words(rt, b"\n");
 }

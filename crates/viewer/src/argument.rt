@@ -1,6 +1,9 @@
 // What the program is asked for: its one argument.
 ghost use Rattle.std.specs.Prelude.{◌≡◌, true};
 
+use input::arguments::{argument_bytes, argument_count};
+use std::env::Env;
+
 // What can be asked for: the glass drawn, a PBM picture of it, the update's cycles, or the job's own as text.
 #[derive(Clone, Copy)]
 pub(crate) enum View {
@@ -52,11 +55,11 @@ fn named(word: &[u8]) -> Asked {
 }
 
 // The one argument. One that is longer than the room for it comes as no bytes, and asks for nothing.
-pub(crate) fn argument() -> Asked {
-    if os::arg_count() != 2 {
+pub(crate) fn argument(rt: &impl Env) -> Asked {
+    if argument_count(rt) != 2 {
         return Asked::Nothing;
     }
-    let mut word = io::buffer();
-    let n = os::arg(1, &mut word);
+    let mut word = [0u8; 4096];
+    let n = argument_bytes(rt, 1, &mut word);
     named(&word[..n])
 }

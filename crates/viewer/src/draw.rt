@@ -52,48 +52,56 @@ fn put_row(frame: &[u8], row: usize, from: usize, lit: u8, dark: u8, line: &mut 
 }
 
 // A row's characters from a segment on and the end of the line, written out by way of `line`.
-fn write_row(frame: &[u8], row: usize, from: usize, lit: u8, dark: u8, line: &mut [u8]) -> bool
+fn write_row(
+    rt: &impl Print,
+    frame: &[u8],
+    row: usize,
+    from: usize,
+    lit: u8,
+    dark: u8,
+    line: &mut [u8],
+) -> bool
     requires { (length frame.now ≡ 1188) × (row ≤ 64) × (1 ≤ length line.old) × (from + length line.old ≤ 133) }
 {
     let n = line.len() - 1;
     put_row(frame, row, from, lit, dark, &mut line[0..n]);
     line[n] = b'\n';
-    io::write_all(libc::STDOUT_FILENO, line)
+    rt.write_all(line).is_ok()
 }
 
 // A row drawn: one line.
-fn drawn_row(frame: &[u8], row: usize) -> bool
+fn drawn_row(rt: &impl Print, frame: &[u8], row: usize) -> bool
     requires { (length frame.now ≡ 1188) × (row ≤ 64) }
 {
     let mut line = [0u8; 133];
-    write_row(frame, row, 0, b'#', b'.', &mut line)
+    write_row(rt, frame, row, 0, b'#', b'.', &mut line)
 }
 
 // Half of a row of a PBM picture, which has no line of more than 70 characters.
-fn pbm_half(frame: &[u8], row: usize, from: usize) -> bool
+fn pbm_half(rt: &impl Print, frame: &[u8], row: usize, from: usize) -> bool
     requires { (length frame.now ≡ 1188) × (row ≤ 64) × (from ≤ 66) }
 {
     let mut line = [0u8; 67];
-    write_row(frame, row, from, b'1', b'0', &mut line)
+    write_row(rt, frame, row, from, b'1', b'0', &mut line)
 }
 
 // A row drawn, or of a picture: two lines.
-fn one_row(frame: &[u8], row: usize, pbm: bool) -> bool
+fn one_row(rt: &impl Print, frame: &[u8], row: usize, pbm: bool) -> bool
     requires { (length frame.now ≡ 1188) × (row ≤ 64) }
 {
     if pbm {
-        return pbm_half(frame, row, 0) & pbm_half(frame, row, 66);
+        return pbm_half(rt, frame, row, 0) & pbm_half(rt, frame, row, 66);
     }
-    drawn_row(frame, row)
+    drawn_row(rt, frame, row)
 }
 
 // All 65 rows, as far as they can be written.
-fn all_rows(frame: &[u8], pbm: bool) -> bool
+fn all_rows(rt: &impl Print, frame: &[u8], pbm: bool) -> bool
     requires { length frame.now ≡ 1188 }
 {
     let mut row = 0;
     while row < 65 {
-        if !one_row(frame, row, pbm) {
+        if !one_row(rt, frame, row, pbm) {
             return false;
         }
         row += 1;
@@ -102,17 +110,17 @@ fn all_rows(frame: &[u8], pbm: bool) -> bool
 }
 
 // Draws the glass, and answers whether it could be written.
-pub(crate) fn glass(registers: Registers, memory: &[u8]) -> bool
+pub(crate) fn glass(rt: &impl Print, registers: Registers, memory: &[u8]) -> bool
     requires { (outside sheet0713 registers ≡ false) × (length memory.now ≡ 1188) }
 {
     let frame = lit_frame(registers, memory);
-    all_rows(&frame, false)
+    all_rows(rt, &frame, false)
 }
 
 // Writes the glass as a plain PBM picture, and answers whether it could be written.
-pub(crate) fn pbm(registers: Registers, memory: &[u8]) -> bool
+pub(crate) fn pbm(rt: &impl Print, registers: Registers, memory: &[u8]) -> bool
     requires { (outside sheet0713 registers ≡ false) × (length memory.now ≡ 1188) }
 {
     let frame = lit_frame(registers, memory);
-    io::write_all(libc::STDOUT_FILENO, b"P1\n132 65\n") & all_rows(&frame, true)
+    rt.write_all(b"P1\n132 65\n").is_ok() & all_rows(rt, &frame, true)
 }

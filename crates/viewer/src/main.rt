@@ -18,69 +18,58 @@ use crate::draw::{glass, pbm};
 use crate::play::after;
 use crate::stream::stream;
 use crate::text::text;
-use input::read_all;
+use input::{large_buffer, read_all};
 use jobs::header::{Header, Job, read_header};
 use jobs::memory::start_memory;
 
 // What is asked of a good job: answers whether it could be written.
-fn view_job(view: View, file: &[u8], job: Job) -> bool
+fn view_job(rt: &(impl Print + Eprint), view: View, file: &[u8], job: Job) -> bool
     requires { Holds file.now job × (header_of file.now ≡ given job) }
 {
     let mut memory = start_memory(file, job);
     let registers = after(file, job, &mut memory);
     match view {
-        View::Glass => glass(registers, &memory),
-        View::Picture => pbm(registers, &memory),
-        View::Stream => stream(file, job, &memory),
-        View::Text => text(file, job),
+        View::Glass => glass(rt, registers, &memory),
+        View::Picture => pbm(rt, registers, &memory),
+        View::Stream => stream(rt, file, job, &memory),
+        View::Text => text(rt, file, job),
     }
 }
 
 // A refused job gives the one line `bad` and the number, as the player writes it.
-fn write_bad(number: u8) -> bool {
-    io::write_all(libc::STDOUT_FILENO, b"bad ")
-        & io::print_decimal(libc::STDOUT_FILENO, number as u64)
-        & io::write_all(libc::STDOUT_FILENO, b"\n")
+fn write_bad(rt: &impl Print, number: u8) -> bool {
+    rt.write_all(b"bad ").is_ok() & rt.print(number).is_ok() & rt.write_all(b"\n").is_ok()
 }
 
 // What is asked of a file, or the line of its refusal: answers whether it could be written.
-fn view_file(view: View, file: &[u8]) -> bool {
+fn view_file(rt: &(impl Print + Eprint), view: View, file: &[u8]) -> bool {
     match read_header(file) {
-        Header::Good(job) => view_job(view, file, job),
-        Header::Refused(number) => write_bad(number),
+        Header::Good(job) => view_job(rt, view, file, job),
+        Header::Refused(number) => write_bad(rt, number),
     }
 }
 
 // Reads the file and writes what is asked of it.
 // 65,536 bytes are more than any good job has, so a file that is cut there is refused with 8, as the whole of it is.
-fn show(view: View) {
-    let mut file = io::large_buffer();
-    let input = read_all(&mut file);
+fn show(rt: &(impl Input + Print + Eprint), view: View) {
+    let mut file = large_buffer();
+    let input = read_all(rt, &mut file);
     if input.failed {
-        io::write_all(
-            libc::STDERR_FILENO,
-            b"viewer: standard input cannot be read\n",
-        );
+        let _ = rt.eprint("viewer: standard input cannot be read\n");
         return;
     }
-    let written = view_file(view, &file[..input.count]);
+    let written = view_file(rt, view, &file[..input.count]);
     if !written {
-        io::write_all(
-            libc::STDERR_FILENO,
-            b"viewer: standard output cannot be written\n",
-        );
+        let _ = rt.eprint("viewer: standard output cannot be written\n");
     }
 }
 
 // No argument, or another one, gives one line of usage on standard error.
-fn main() {
-    match argument() {
-        Asked::For(view) => show(view),
+fn main(rt: HostRuntime) {
+    match argument(&rt) {
+        Asked::For(view) => show(&rt, view),
         Asked::Nothing => {
-            io::write_all(
-                libc::STDERR_FILENO,
-                b"usage: viewer glass|pbm|stream|text < job\n",
-            );
+            let _ = rt.eprint("usage: viewer glass|pbm|stream|text < job\n");
         }
     }
 }

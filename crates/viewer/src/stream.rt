@@ -28,20 +28,20 @@ fn sent(memory: &[u8], wanted: &[u8], out: &mut [u8], kinds: &mut [u8]) -> usize
 }
 
 // One cycle's line: its kind, a space, its byte.
-fn write_cycle(kind: u8, byte: u8) -> bool {
-    io::print_decimal(libc::STDOUT_FILENO, kind as u64)
-        & io::write_all(libc::STDOUT_FILENO, b" ")
-        & io::print_hex(libc::STDOUT_FILENO, byte as u64, 2)
-        & io::write_all(libc::STDOUT_FILENO, b"\n")
+fn write_cycle(rt: &impl Print, kind: u8, byte: u8) -> bool {
+    rt.print(kind).is_ok()
+        & rt.write_all(b" ").is_ok()
+        & print!(rt; "{byte:02x}").is_ok()
+        & rt.write_all(b"\n").is_ok()
 }
 
 // The lines of n cycles, as far as they can be written.
-fn write_cycles(out: &[u8], kinds: &[u8], n: usize) -> bool
+fn write_cycles(rt: &impl Print, out: &[u8], kinds: &[u8], n: usize) -> bool
     requires { (n ≤ length out.now) × (n ≤ length kinds.now) }
 {
     let mut i = 0;
     while i < n {
-        if !write_cycle(kinds[i], out[i]) {
+        if !write_cycle(rt, kinds[i], out[i]) {
             return false;
         }
         i += 1;
@@ -50,27 +50,24 @@ fn write_cycles(out: &[u8], kinds: &[u8], n: usize) -> bool
 }
 
 // The update's lines.
-fn write_update(memory: &[u8], wanted: &[u8]) -> bool
+fn write_update(rt: &impl Print, memory: &[u8], wanted: &[u8]) -> bool
     requires { (length memory.now ≡ 1188) × (length wanted.now ≡ 1188) }
 {
     let mut out = room();
     let mut kinds = room();
     let n = sent(memory, wanted, &mut out, &mut kinds);
-    write_cycles(&out, &kinds, n)
+    write_cycles(rt, &out, &kinds, n)
 }
 
 // Writes the update to picture 2, and answers whether it could be written. A job with fewer pictures has no wanted one.
-pub(crate) fn stream(file: &[u8], job: Job, memory: &[u8]) -> bool
+pub(crate) fn stream(rt: &(impl Print + Eprint), file: &[u8], job: Job, memory: &[u8]) -> bool
     requires { Holds file.now job × (length memory.now ≡ 1188) }
 {
     if job.pictures < 2 {
-        io::write_all(
-            libc::STDERR_FILENO,
-            b"viewer: the job has no wanted picture\n",
-        );
+        let _ = rt.eprint("viewer: the job has no wanted picture\n");
         return true;
     }
     let from = 8 + 2 * job.cycles + 1188;
     let to = from + 1188;
-    write_update(memory, &file[from..to])
+    write_update(rt, memory, &file[from..to])
 }

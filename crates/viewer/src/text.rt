@@ -30,10 +30,10 @@ fn put_text(file: &[u8], job: Job, out: &mut [u8]) -> usize
 }
 
 // Writes the text, and answers whether it could be written.
-pub(crate) fn text(file: &[u8], job: Job) -> bool
+pub(crate) fn text(rt: &impl Print, file: &[u8], job: Job) -> bool
     requires { Holds file.now job × (header_of file.now ≡ given job) }
 {
     let mut out = room();
     let n = put_text(file, job, &mut out);
-    io::write_all(libc::STDOUT_FILENO, &out[0..n])
+    rt.write_all(&out[0..n]).is_ok()
 }

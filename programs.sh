@@ -18,16 +18,17 @@ built() { [ -x "$(proved)" ] && [ -z "$(find "$root/crates" "$root/crates.txt" -
 # A checkout that cannot be written is copied to where the user's caches are, again where a file of it has changed. What rt keeps in each
 # out/ is not the checkout's, and that of the copy stays.
 sources() { find crates crates.txt -name out -prune -o -type f "$@"; }
-sums() { (cd "$here" && sources -exec cksum {} + | sort); }
+sums() { (cd "$1" && sources -exec cksum {} + | sort); }
 copy() {
   root=${XDG_CACHE_HOME:-${HOME:-}/.cache}/wangemipe-panel
   { mkdir -p "$root/target" && touch "$root/sums"; } 2>/dev/null || die "$program is to be built, and neither $here nor $root can be written: set XDG_CACHE_HOME to a folder that can"
-  if ! sums | cmp -s - "$root/sums"; then
+  if ! sums "$here" | cmp -s - "$root/sums"; then
     rm -f "$root/sums"
     [ ! -d "$root/crates" ] || (cd "$root" && sources -exec rm -f {} +)
-    (cd "$here" && sources -print | tar -cf - -T -) | (cd "$root" && tar -xmf -) || die "$here could not be copied to $root"
-    (cd "$root" && sources -exec chmod u+w {} +)
-    sums >"$root/sums"
+    (cd "$here" && sources -print | tar -cf - -T -) | (cd "$root" && tar -xmf - && sources -exec chmod u+w {} +) || die "$here could not be copied to $root"
+    sums "$here" >"$folder/sums"
+    sums "$root" | cmp -s - "$folder/sums" || die "$here could not be copied to $root"
+    cp "$folder/sums" "$root/sums"
   fi
 }
 

@@ -1,9 +1,10 @@
--- Where a line stands in memory, and how long memory and frame are where nothing is refused.
+-- Where a byte of a frame stands, and how long memory and frame are where nothing is refused.
 -- Assumes nothing.
-use Prim.Native.Nat.{ℕ, ◌+◌, ◌*◌, ◌/◌, ◌≤◌, ◌<◌}
+use Prim.Native.Nat.{ℕ, ◌+◌, ◌*◌, ◌/◌, ◌%◌, ◌≤◌, ◌<◌}
 use mathlib.Core.Path.{◌≡◌}
 use mathlib.Core.Bool.{false, not, ◌||◌}
 use native.Mathlib.Omega.{arith}
+use native.Mathlib.Nat.{div-lt_iff_lt-mul, mod-lt}
 use lib.Dec.{eqb}
 use borrow.Author.Tests.{eqb-true, not-false}
 use Rattle.paper.specs.Refusal.{wrong_size}
@@ -17,6 +18,13 @@ use Rattle.glass.specs.Frame.{refusal}
 -- a line is on one of 9 pages
 pub line_place : (w line c : ℕ) → line ≤ 64 → c < w → w * (line / 8) + c < 9 * w
 line_place w line c hl hc = place w (line / 8) c (omega arith) hc
+
+-- byte i of a frame is on one of 9 strips, under one of w segments
+pub strip : (w i : ℕ) → 1 ≤ w → i < 9 * w → i / w < 9
+strip w i hw h = (div-lt_iff_lt-mul hw).1 h
+
+pub segment : (w i : ℕ) → 1 ≤ w → i % w < w
+segment w i hw = mod-lt i hw
 
 -- two lengths of which neither is wrong
 pub right_sizes : (size m n : ℕ) → not (eqb m size) || not (eqb n size) ≡ false → (m ≡ size) × (n ≡ size)

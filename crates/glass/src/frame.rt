@@ -1,5 +1,5 @@
 // The lit frame: a picture's layout, with segments for columns and rows for lines.
-ghost use Rattle.std.specs.Prelude.{◌≡◌, ◌+◌, ◌*◌, ◌<◌, length};
+ghost use Rattle.std.specs.Prelude.{◌≡◌, ◌+◌, ◌*◌, ◌<◌, ◌≤◌, length};
 ghost use Rattle.paper.specs.Sheet.{Sensible, sheet0713, sheet0717};
 ghost use Rattle.glass.specs.Frame.{strip_byte, frame_of, refusal, IsShown};
 ghost use Rattle.glass.specs.Filling.{DrawnTo};
@@ -60,7 +60,7 @@ fn fill_strip(chip: Sheet, registers: Registers, memory: &[u8], strip: usize, ou
 // The whole frame, strip by strip, so that the compiler finds a strip's lines once and not under
 // each segment.
 fn fill(chip: Sheet, registers: Registers, memory: &[u8], out: &mut [u8])
-    requires { Sensible chip × (length memory.now ≡ 9 * chip.width) × (length out.old ≡ 9 * chip.width) }
+    requires { Sensible chip × (1 ≤ chip.width) × (length memory.now ≡ 9 * chip.width) × (length out.old ≡ 9 * chip.width) }
     ensures { out.new ≡ frame_of chip registers memory.now }
 {
     let mut strip = 0;
@@ -90,7 +90,7 @@ fn refusal_of(chip: Sheet, registers: Registers, memory: usize, frame: usize) ->
 
 // The lit frame of any chip.
 fn frame_for(chip: Sheet, registers: Registers, memory: &[u8], out: &mut [u8]) -> Shown
-    requires { Sensible chip }
+    requires { Sensible chip × (1 ≤ chip.width) }
     ensures { IsShown chip registers memory.now out.old result out.new }
 {
     let number = refusal_of(chip, registers, memory.len(), out.len());

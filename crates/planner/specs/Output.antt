@@ -1,10 +1,12 @@
 -- Internal: what the inner functions ask and say of themselves. A writer puts a list of bus cycles into both outputs at once.
 -- Assumes nothing.
-use Rattle.std.specs.Prelude.{ℕ, ◌+◌, ◌*◌, ◌≤◌, ◌≡◌, Bool, ◌||◌, List, [], ◌∷◌, ◌++◌, map, length, take, drop, ltb}
+use Rattle.std.specs.Prelude.{ℕ, ◌+◌, ◌*◌, ◌≤◌, ◌≡◌, Bool, cond, ◌||◌, List, [], ◌∷◌, ◌++◌, map, length, take, drop, ltb}
 use Rattle.controller.specs.Run.{BusCycle}
 use Rattle.controller.specs.Chip.{page_cycle, data_cycle}
+use Rattle.streams.specs.Picture.{differs}
 use Rattle.streams.specs.Stretch.{column_bytes}
 use Rattle.streams.specs.Update.{wanted_bytes}
+use Rattle.streams.specs.Walk.{piece}
 use Rattle.planner.specs.Sent.{kind_of, byte_of}
 
 -- one picture that fits, and a width that the column counter reaches
@@ -34,6 +36,10 @@ pub record Wrote (s : List BusCycle) (out kinds : List ℕ) (at : ℕ) (out' kin
 -- two instructions
 abbrev pub two_cycles : ℕ → ℕ → List BusCycle
 two_cycles first second = (0, first) ∷ (0, second) ∷ []
+
+-- what column c of page p sends in the update's walk
+unfoldable pub column_piece : ℕ → List ℕ → List ℕ → ℕ → Bool → ℕ → ℕ → List BusCycle
+column_piece W recorded wanted p sent next c = cond (differs W recorded wanted p c) (piece W wanted p sent next c) []
 
 -- page p of a redraw
 abbrev pub page_group : ℕ → List ℕ → ℕ → List BusCycle

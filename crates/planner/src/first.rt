@@ -19,15 +19,15 @@ pub enum Found {
     Refused(u8),
 }
 
-// A column before which a page does not differ: past the last one on an equal page, else the first.
-fn passed(recorded: &[u8], wanted: &[u8], width: usize, page: usize) -> usize
+// A column up to which none from `from` on differs: past the last one on an equal page, else `from` itself.
+fn passed(recorded: &[u8], wanted: &[u8], width: usize, page: usize, from: usize) -> usize
     requires { Pictures width recorded.now wanted.now × (page < 9) }
-    ensures { Past (differs width recorded.now wanted.now page) width 0 result }
+    ensures { from ≤ width → Past (differs width recorded.now wanted.now page) width from result }
 {
     if same_page(recorded, wanted, width, page) {
         return width;
     }
-    0
+    from
 }
 
 // Stops at the first difference found, page by page.
@@ -38,7 +38,8 @@ fn scan(recorded: &[u8], wanted: &[u8], width: usize) -> Found
     let mut page = 0;
     let mut column = 0;
     'pages: while page < 9 {
-        column = passed(recorded, wanted, width, page);
+        column = 0;
+        column = passed(recorded, wanted, width, page, column);
         while column < width {
             if differ(recorded, wanted, width, page, column) {
                 break 'pages;

@@ -1,10 +1,10 @@
 // The update: one walk over the columns, which carries the chip's own column counter.
-ghost use Rattle.std.specs.Prelude.{◌≡◌, ◌+◌, ◌≤◌, ◌<◌, true, false};
+ghost use Rattle.std.specs.Prelude.{◌≡◌, ◌+◌, ◌≤◌, ◌<◌, cond, ◌||◌, false};
 ghost use Rattle.streams.specs.Picture.{differs};
 ghost use Rattle.streams.specs.Length.{update_length};
-ghost use Rattle.streams.specs.Walk.{lead, piece, walk, walk_pages};
+ghost use Rattle.streams.specs.Walk.{lead, walk, walk_pages};
 ghost use Rattle.planner.specs.Pictures.{Pictures};
-ghost use Rattle.planner.specs.Output.{Fits, Room, Wrote, shorter};
+ghost use Rattle.planner.specs.Output.{Fits, Room, Wrote, column_piece, shorter};
 ghost use Rattle.planner.specs.Sent.{IsUpdate};
 
 use crate::count::Count;
@@ -50,8 +50,9 @@ fn put_lead(
     put_address(out, kinds, at, page, column)
 }
 
-// A differing column: what goes ahead of it, and its byte.
+// One column: an equal one sends nothing, a differing one what goes ahead of it and its byte.
 fn update_column(
+    recorded: &[u8],
     wanted: &[u8],
     width: usize,
     page: usize,
@@ -60,24 +61,28 @@ fn update_column(
     out: &mut [u8],
     kinds: &mut [u8],
 ) -> Pen
-    requires { Fits width wanted.now × (page < 9) × (column < width) × (pen.next ≤ width)
-        × Room (piece width wanted.now page pen.sent pen.next column) out.old kinds.old pen.at }
-    ensures { Wrote (piece width wanted.now page pen.sent pen.next column)
+    requires { Pictures width recorded.now wanted.now × (page < 9) × (column < width) × (pen.next ≤ width)
+        × Room (column_piece width recorded.now wanted.now page pen.sent pen.next column) out.old kinds.old pen.at }
+    ensures { Wrote (column_piece width recorded.now wanted.now page pen.sent pen.next column)
         out.old kinds.old pen.at out.new kinds.new result.at
-        × (result.sent ≡ true) × (result.next ≡ column + 1) }
+        × (result.sent ≡ (differs width recorded.now wanted.now page column || pen.sent))
+        × (result.next ≡ cond (differs width recorded.now wanted.now page column) (column + 1) pen.next) }
 {
-    let byte = shown_at(wanted, width, page, column);
-    let led = put_lead(wanted, width, page, column, pen, out, kinds);
-    let at = put(out, kinds, led, DATA, byte);
-    Pen {
-        at,
-        sent: true,
-        next: column + 1,
+    if differ(recorded, wanted, width, page, column) {
+        let byte = shown_at(wanted, width, page, column);
+        let led = put_lead(wanted, width, page, column, pen, out, kinds);
+        let at = put(out, kinds, led, DATA, byte);
+        return Pen {
+            at,
+            sent: true,
+            next: column + 1,
+        };
     }
+    pen
 }
 
 // One page's work, from index `at` on.
-fn update_page(
+pub(crate) fn update_page(
     recorded: &[u8],
     wanted: &[u8],
     width: usize,
@@ -99,7 +104,7 @@ fn update_page(
     let mut column = 0;
     while column < width {
         if differ(recorded, wanted, width, page, column) {
-            pen = update_column(wanted, width, page, column, pen, out, kinds);
+            pen = update_column(recorded, wanted, width, page, column, pen, out, kinds);
             column += 1;
         } else {
             column = past_equal(recorded, wanted, width, page, column + 1);

@@ -6,12 +6,12 @@ use Rattle.glass.proofs.frame.fill.Goals as goal
 
 pub loop-strip-init : goal.loop-strip-init
 loop-strip-init c =
-    (c.requires.2, λ k h. absurd (omega arith))
+    (c.requires.3, λ k h. absurd (omega arith))
 
 pub fill_strip-requires : goal.fill_strip-requires
 fill_strip-requires c =
     let p = c.requires in
-    (p.0, c.loop-strip-test.true, p.1, c.loop-strip.invariant)
+    (p.0, c.loop-strip-test.true, p.2, c.loop-strip.invariant)
 
 pub loop-strip-preserved : goal.loop-strip-preserved
 loop-strip-preserved c =

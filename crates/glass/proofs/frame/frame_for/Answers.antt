@@ -16,7 +16,7 @@ pub fill-requires : goal.fill-requires
 fill-requires c =
     let p = c.requires in
     let l = long _ _ _ _ (sym c.refusal_of-number.ensures ∙ c.if-number-ne0.false) in
-    (p, l.0, l.1)
+    (p.0, p.1, l.0, l.1)
 
 pub returns : goal.returns
 returns c =

@@ -1,4 +1,4 @@
--- `planner::first::passed` meets its contract: no column of an equal page differs, and none comes before the first.
+-- `planner::first::passed` meets its contract: no column of an equal page differs, and none comes between a column and itself.
 -- Assumes nothing.
 use native.Mathlib.Omega.{arith}
 use Rattle.streams.proofs.Equal.{equal_page}
@@ -8,8 +8,8 @@ use Rattle.planner.proofs.first.passed.Goals as goal
 
 pub returns-then-same_page : goal.returns-then-same_page
 returns-then-same_page c =
-    (omega arith, omega arith, equal_page _ _ (told c.same_page.ensures c.if-same_page.true))
+    λ h. (h, omega arith, λ k a b. equal_page _ _ (told c.same_page.ensures c.if-same_page.true) k (omega arith) b)
 
 pub returns : goal.returns
 returns c =
-    past_none (omega arith)
+    λ h. past_none h

@@ -16,7 +16,7 @@ pages-init c =
 pub loop-column-init : goal.loop-column-init
 loop-column-init c =
     let a = c.args in
-    let e = c.passed-column.ensures in
+    let e = c.passed-column.ensures (omega arith) in
     sym (first_passed _ _ a.width _ _ _ e)
     ∙ sym (first_page a.width a.recorded.now a.wanted.now c.pages.page c.pages-test.true) ∙ c.pages.invariant
 

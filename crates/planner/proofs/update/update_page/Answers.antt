@@ -6,9 +6,9 @@ use mathlib.Core.Path.{◌≡◌}
 use native.Mathlib.Omega.{arith}
 use borrow.Author.Rules.{rules}
 use Rattle.streams.specs.Picture.{differs}
-use Rattle.streams.proofs.Walking.{walk_differs, walk_end}
+use Rattle.streams.proofs.Walking.{walk_end}
 use Rattle.planner.proofs.Showing.{told}
-use Rattle.planner.proofs.Turns.{walk_passed}
+use Rattle.planner.proofs.Turns.{walk_next, walk_passed, next_inside}
 use Rattle.planner.proofs.Writing.{going_start, going_room, going_step, going_end}
 use Rattle.planner.proofs.update.update_page.Goals as goal
 
@@ -21,20 +21,19 @@ pub update_column-pen-requires : goal.update_column-pen-requires
 update_column-pen-requires c =
     let a = c.args in
     let p = c.loop-column.pen in
-    let yes = told c.differ.ensures c.if-differ.true in
-    let d = differs a.width a.recorded.now a.wanted.now a.page in
-    let n = walk_differs a.width a.wanted.now a.page d p.sent p.next c.loop-column.column c.loop-column-test.true yes in
+    let n = walk_next a.width a.recorded.now a.wanted.now a.page p.sent p.next c.loop-column.column c.loop-column-test.true in
     (search rules, search rules, search rules, c.loop-column.invariant.0, going_room _ _ n c.loop-column.invariant.1)
 
 pub loop-column-preserved-then-differ : goal.loop-column-preserved-then-differ
 loop-column-preserved-then-differ c =
     let a = c.args in
     let p = c.loop-column.pen in
-    let yes = told c.differ.ensures c.if-differ.true in
-    let d = differs a.width a.recorded.now a.wanted.now a.page in
-    let n = walk_differs a.width a.wanted.now a.page d p.sent p.next c.loop-column.column c.loop-column-test.true yes in
-    let w = c.update_column-pen.ensures in
-    (omega (arith, c.loop-column-test.true, w.2), rw (w.1, w.2) (going_step _ _ n c.loop-column.invariant.1 w.0))
+    let n = walk_next a.width a.recorded.now a.wanted.now a.page p.sent p.next c.loop-column.column c.loop-column-test.true in
+    let d = differs a.width a.recorded.now a.wanted.now a.page c.loop-column.column in
+    let w = c.update_column-pen.ensures in (
+      rw w.2 (next_inside d a.width p.next c.loop-column.column c.loop-column-test.true c.loop-column.invariant.0),
+      rw (w.1, w.2) (going_step _ _ n c.loop-column.invariant.1 w.0),
+    )
 
 pub loop-column-smaller : goal.loop-column-smaller
 loop-column-smaller c =

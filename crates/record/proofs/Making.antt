@@ -30,6 +30,9 @@ module _ (set : CommandSet) (cycles : List ℕ) (count : ℕ) (pictures out : Li
   always : a ≡ Bytes (length (job_bytes set (cycles_of cycles) count pictures))
   always = (job_always set cycles count pictures out a left f h.fit (g.few, (h.most, (wrong_no (cycles_of cycles)).0 g.right)) h.room).0
 
+  pub job_given : {n : ℕ} → a ≡ Bytes n → IsWrittenJob set cycles count pictures out (Bytes n) left
+  job_given e = subst (λ (x : Count). IsWrittenJob set cycles count pictures out x left) e f
+
   pub job_never : {n : ℕ} → a ≡ Refused n → ⊥
   job_never {n} e =
       let same : Refused n ≡ Bytes (length (job_bytes set (cycles_of cycles) count pictures)) = sym e ∙ always in

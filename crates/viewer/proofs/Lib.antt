@@ -1,4 +1,5 @@
 pub mod Writing
 pub mod Showing
 pub mod Sending
+pub mod Words
 pub mod Running

@@ -77,6 +77,7 @@ fn dot_at(width: usize, registers: Registers, memory: &[u8], line: usize, segmen
 }
 
 // The dot of a row under a segment: the commons scroll, the icon row, row 64, shows line 64 always, and there are no other rows.
+#[tactic(auto, using(paper::proofs::Tests::tests), unfolding(crate::specs::Dot::lit_of))]
 pub(crate) fn lit(
     chip: Sheet,
     registers: Registers,

@@ -62,6 +62,7 @@ pub fn of_other(set: CommandSet, awaited: Awaited) -> bool
 }
 
 // A byte where nothing is awaited.
+#[tactic(auto, using(paper::proofs::Tests::tests), unfolding(crate::specs::Added::added_first))]
 fn read_first(byte: u8) -> AddedReading
     ensures { told_added result ≡ added_first byte }
 {

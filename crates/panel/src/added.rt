@@ -51,6 +51,7 @@ pub extern "C" fn panel_read_added(awaited: u8, byte: u8, number: &mut u8, value
 }
 
 // The switch on the registers that the state stands for.
+#[tactic(auto, using(paper::proofs::Tests::tests))]
 fn switch_on(state: &State, set: u8) -> Switched
     ensures { SwitchedOn sheet0713 state.now set result }
 {

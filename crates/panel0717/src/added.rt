@@ -10,6 +10,7 @@ use state::packed::{State, set_of, unpack};
 use state::unfit::is_unfit;
 
 // The switch on the registers that the state stands for.
+#[tactic(auto, using(paper::proofs::Tests::tests))]
 fn switch_on(state: &State, set: u8) -> Switched
     ensures { SwitchedOn sheet0717 state.now set result }
 {

@@ -79,6 +79,7 @@ fn byte_at(bytes: &[u8], i: usize) -> u8
 }
 
 // The kind of a letter, 6 where it is none of the six.
+#[tactic(auto, using(paper::proofs::Tests::tests), unfolding(crate::specs::Line::kind_by))]
 fn kind_by(letter: u8) -> u8
     ensures { result ≡ kind_by letter }
 {

@@ -5,23 +5,11 @@ use borrow.Author.Rules.{rules}
 use Rattle.streams.proofs.Walking.{lead_near, lead_far, lead_new}
 use Rattle.planner.proofs.update.put_lead.Goals as goal
 
-pub put_wanted-requires : goal.put_wanted-requires
-put_wanted-requires c =
-    let a = c.args in
-    let e = lead_near a.width a.wanted.now a.page a.pen.sent a.pen.next a.column c.if-pen.true (omega (arith, c.if-column-next.true)) in
-    (search rules, search rules, omega arith, rw e at c.requires.4)
-
 pub returns-then-column-next : goal.returns-then-column-next
 returns-then-column-next c =
     let a = c.args in
     let e = lead_near a.width a.wanted.now a.page a.pen.sent a.pen.next a.column c.if-pen.true (omega (arith, c.if-column-next.true)) in
     rw e c.put_wanted.ensures
-
-pub put_column-requires : goal.put_column-requires
-put_column-requires c =
-    let a = c.args in
-    let e = lead_far a.width a.wanted.now a.page a.pen.sent a.pen.next a.column c.if-pen.true (omega (arith, c.if-column-next.false)) in
-    (omega arith, rw e at c.requires.4)
 
 pub returns-then-pen : goal.returns-then-pen
 returns-then-pen c =
@@ -29,14 +17,26 @@ returns-then-pen c =
     let e = lead_far a.width a.wanted.now a.page a.pen.sent a.pen.next a.column c.if-pen.true (omega (arith, c.if-column-next.false)) in
     rw e c.put_column.ensures
 
-pub put_address-requires : goal.put_address-requires
-put_address-requires c =
-    let a = c.args in
-    let e = lead_new a.width a.wanted.now a.page a.pen.sent a.pen.next a.column c.if-pen.false in
-    (search rules, omega arith, rw e at c.requires.4)
-
 pub returns : goal.returns
 returns c =
     let a = c.args in
     let e = lead_new a.width a.wanted.now a.page a.pen.sent a.pen.next a.column c.if-pen.false in
     rw e c.put_address.ensures
+
+pub put_wanted-requires : goal.put_wanted-requires
+put_wanted-requires c =
+    let a = c.args in
+    let e = lead_near a.width a.wanted.now a.page a.pen.sent a.pen.next a.column c.if-pen.true (omega (arith, c.if-column-next.true)) in
+    (search rules, search rules, omega arith, rw e at c.requires.4)
+
+pub put_column-requires : goal.put_column-requires
+put_column-requires c =
+    let a = c.args in
+    let e = lead_far a.width a.wanted.now a.page a.pen.sent a.pen.next a.column c.if-pen.true (omega (arith, c.if-column-next.false)) in
+    (omega arith, rw e at c.requires.4)
+
+pub put_address-requires : goal.put_address-requires
+put_address-requires c =
+    let a = c.args in
+    let e = lead_new a.width a.wanted.now a.page a.pen.sent a.pen.next a.column c.if-pen.false in
+    (search rules, omega arith, rw e at c.requires.4)

@@ -55,6 +55,7 @@ fn names_none(number: u8, value: u8) -> bool
 }
 
 // The instruction of a number, with a value; 6 is the last.
+#[tactic(auto, using(paper::proofs::Tests::tests), unfolding(crate::specs::Added::by_added_number))]
 fn by_number(number: u8, value: u8) -> Added
     ensures { result ≡ by_added_number number value }
 {

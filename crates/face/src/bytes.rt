@@ -85,6 +85,7 @@ fn names_none(number: u8, value: u8) -> bool
 }
 
 // The instruction of a number, with a value; 20 is the last.
+#[tactic(auto, using(paper::proofs::Tests::tests), unfolding(crate::specs::Bytes::by_number))]
 fn by_number(number: u8, value: u8) -> Instruction
     ensures { result ≡ by_number number value }
 {

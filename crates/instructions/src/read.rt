@@ -23,6 +23,7 @@ fn room_in(highs: u8, high: u8) -> u8
 }
 
 // What a byte of a class is read as.
+#[tactic(auto, using(paper::proofs::Tests::tests), unfolding(crate::specs::Read::read_by))]
 fn read_by(chip: Sheet, class: u8, byte: u8) -> Reading
     ensures { told_reading result ≡ read_by chip class byte }
 {
@@ -52,6 +53,7 @@ fn read_by(chip: Sheet, class: u8, byte: u8) -> Reading
 
 // Reads one byte, for any chip's sheet. A second byte is taken whatever its value; where one of the new set is awaited, none of this
 // set is read.
+#[tactic(auto, unfolding(crate::specs::Read::read_first))]
 pub fn read_for(chip: Sheet, awaited: Awaited, byte: u8) -> Reading
     ensures { IsRead chip awaited byte result }
 {

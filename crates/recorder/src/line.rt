@@ -36,6 +36,7 @@ fn put_hex(out: &mut [u8], at: usize, byte: u8) -> usize
 }
 
 // The letter of a kind.
+#[tactic(auto, using(paper::proofs::Tests::tests), unfolding(crate::specs::Line::letter_of))]
 fn letter_of(kind: u8) -> u8
     ensures { result ≡ letter_of kind }
 {

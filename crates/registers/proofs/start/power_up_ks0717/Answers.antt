@@ -1,7 +1,0 @@
--- `registers::start::power_up_ks0717` meets its contract: the start values, with the pin high again.
--- Assumes nothing.
-use Rattle.registers.proofs.start.power_up_ks0717.Goals as goal
-
-pub returns : goal.returns
-returns c =
-    record { tells = rw (c.started.ensures, c.ks0717.ensures) }

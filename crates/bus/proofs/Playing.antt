@@ -11,7 +11,8 @@ use Rattle.paper.specs.declared.sheet.Sheet.{Sheet}
 use Rattle.registers.specs.declared.Registers.{Registers}
 use Rattle.controller.specs.Run.{BusCycle}
 use Rattle.controller.specs.State.{State, state, step, run}
-use Rattle.controller.specs.Turn.{Turn, IsTurn}
+use Rattle.controller.specs.Turn.{IsTurn}
+use Rattle.controller.specs.declared.turn.Turn.{Turn}
 use Rattle.controller.proofs.Turning.{turn_steps}
 use Rattle.bus.specs.Cycles.{cycles_of, turns}
 use Rattle.bus.specs.Run.{Outputs}

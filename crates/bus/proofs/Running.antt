@@ -12,18 +12,21 @@ use lib.ListN.{length, length-map}
 use lib.Dec.{ltb, eqb}
 use lib.Seq.{sets, sets-eq}
 use borrow.Author.Tests.{ltb-false, eq-eqb, ne_eqb}
+use Rattle.std.specs.Prelude.{Ok, Err}
+use Rattle.paper.specs.Refusal.{number_of}
 use Rattle.paper.specs.Over.{over}
+use Rattle.paper.specs.declared.refusal.Refusal.{Refusal}
 use Rattle.paper.specs.declared.sheet.Sheet.{Sheet}
+use Rattle.paper.proofs.Telling.{number_some}
 use Rattle.paper.proofs.Either.{or_left, or_right}
 use Rattle.paper.proofs.Exactly.{past}
 use Rattle.registers.specs.Registers.{outside}
 use Rattle.registers.specs.declared.Registers.{Registers}
 use Rattle.controller.specs.State.{State, state}
-use Rattle.controller.specs.Turn.{Turn}
+use Rattle.controller.specs.declared.turn.Turn.{Turn}
 use Rattle.bus.specs.Cycles.{cycles_of, turns}
 use Rattle.bus.specs.Run.{Outputs, number_entry, read_entry, byte_entry, fresh_entry, answered, too_short, run_refusal, refusal_of, IsRun}
 use Rattle.bus.specs.Filling.{put_from, Filled}
-use Rattle.bus.specs.declared.run.Ran.TheVariants.{After, Refused}
 use Rattle.bus.proofs.Playing.{cycles_count, turns_count}
 
 -- the four outputs have room for n answers
@@ -62,32 +65,37 @@ put_answered ts o h =
 
 -- ---- the number, as the code finds it: it counts pairs of bytes
 
-module _ (k : Sheet) (r : Registers) (m cycles : List ℕ) (o : Outputs) {c : Sheet} {n : ℕ} (same : c ≡ k)
-    (found : n ≡ run_refusal c r (length m) (ltb (length o.numbers) (length cycles / 2) || ltb (length o.reads) (length cycles / 2) || ltb (length o.bytes) (length cycles / 2) || ltb (length o.fresh) (length cycles / 2))) where
-  number_is : n ≡ refusal_of k r m cycles o
-  unfolding too_short
-  number_is = rw (cycles_count cycles) (rw same at found)
+module _ (k : Sheet) (r : Registers) (m cycles : List ℕ) (o : Outputs) where
+  abbrev pub found : ℕ
+  found =
+      run_refusal k r (length m)
+      (ltb (length o.numbers) (length cycles / 2) || ltb (length o.reads) (length cycles / 2) || ltb (length o.bytes) (length cycles / 2) || ltb (length o.fresh) (length cycles / 2))
 
-  long_enough : n ≡ 0 → too_short (length (cycles_of cycles)) o ≡ false
+  number_is : found ≡ refusal_of k r m cycles o
+  unfolding too_short
+  number_is = rw (cycles_count cycles) refl
+
+  long_enough : found ≡ 0 → too_short (length (cycles_of cycles)) o ≡ false
   unfolding run_refusal
   long_enough z =
       ((past (too_short (length (cycles_of cycles)) o) 5 0 0 (λ e. omega arith)).0
       ((past (outside k r) 2 _ 0 (λ e. omega arith)).0 ((past (not (eqb (length m) (9 * k.width))) 1 _ 0 (λ e. omega arith)).0 (sym number_is ∙ z)).1).1).0
 
-  pub has_room : n ≡ 0 → (length cycles / 2 ≤ length o.numbers) × (length cycles / 2 ≤ length o.reads) × (length cycles / 2 ≤ length o.bytes) × (length cycles / 2 ≤ length o.fresh)
+  pub has_room : found ≡ 0 → (length cycles / 2 ≤ length o.numbers) × (length cycles / 2 ≤ length o.reads) × (length cycles / 2 ≤ length o.bytes) × (length cycles / 2 ≤ length o.fresh)
   has_room z =
       let h : Room (length cycles / 2) o = rw (cycles_count cycles) at (room (length (cycles_of cycles)) o (long_enough z)) in
       (h.numbers_room, h.reads_room, h.bytes_room, h.fresh_room)
 
   -- ---- the answer
 
-  pub run_refused : n ≢ 0 → IsRun k r m cycles o (Refused n) m o
-  run_refused h =
-      let t : eqb (refusal_of k r m cycles o) 0 ≡ false = rw number_is at (ne_eqb n 0 h) in
-      record { tells = rw (t, number_is) refl; leaves = rw t refl; answers = rw t refl }
+  pub run_refused : {e : Refusal} → found ≡ number_of e → IsRun k r m cycles o (Err e) m o
+  run_refused {e} h =
+      let q : refusal_of k r m cycles o ≡ number_of e = sym number_is ∙ h in
+      let t : eqb (number_of e) 0 ≡ false = ne_eqb (number_of e) 0 (number_some e) in
+      record { tells = rw (q, t) refl; leaves = rw (q, t) refl; answers = rw (q, t) refl }
 
-  pub run_given : {r' : Registers} {left : List ℕ} {o' : Outputs} → n ≡ 0 → Filled k (state r m) (cycles_of cycles) o 0 (state r' left) o'
-      → IsRun k r m cycles o (After r') left o'
+  pub run_given : {r' : Registers} {left : List ℕ} {o' : Outputs} → found ≡ 0 → Filled k (state r m) (cycles_of cycles) o 0 (state r' left) o'
+      → IsRun k r m cycles o (Ok r') left o'
   run_given z f =
       let t : eqb (refusal_of k r m cycles o) 0 ≡ true = eq-eqb _ 0 (sym number_is ∙ z) in
       let h : Room (length (turns k (state r m) (cycles_of cycles))) o = rw (turns_count k (state r m) (cycles_of cycles)) (room (length (cycles_of cycles)) o (long_enough z)) in

@@ -5,7 +5,8 @@ use Rattle.paper.specs.declared.sheet.Sheet.{Sheet}
 use Rattle.controller.specs.Cycle.{answer}
 use Rattle.controller.specs.Run.{BusCycle}
 use Rattle.controller.specs.State.{State, step}
-use Rattle.controller.specs.Turn.{Turn, turn_of}
+use Rattle.controller.specs.Turn.{turn_of}
+use Rattle.controller.specs.declared.turn.Turn.{Turn}
 
 -- two bytes a cycle, kind and value; a last odd byte is no cycle
 unfoldable pub cycles_of : List ℕ → List BusCycle

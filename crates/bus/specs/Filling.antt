@@ -5,7 +5,7 @@ use Rattle.std.proofs.lemmas.List.Edits.{sets}
 use Rattle.paper.specs.declared.sheet.Sheet.{Sheet}
 use Rattle.controller.specs.Run.{BusCycle}
 use Rattle.controller.specs.State.{State, step, run}
-use Rattle.controller.specs.Turn.{Turn}
+use Rattle.controller.specs.declared.turn.Turn.{Turn}
 use Rattle.bus.specs.Cycles.{turn_by, turns}
 use Rattle.bus.specs.Run.{Outputs, outputs, number_entry, read_entry, byte_entry, fresh_entry}
 

@@ -1,17 +1,16 @@
 -- A list of cycles, played: the chip after them, and each one's answer.
 -- Assumes nothing.
-use Rattle.std.specs.Prelude.{ℕ, ◌*◌, ◌≡◌, Bool, cond, not, ◌||◌, List, map, length, ltb, eqb}
+use Rattle.std.specs.Prelude.{ℕ, ◌*◌, ◌≡◌, Bool, cond, not, ◌||◌, List, map, length, ltb, eqb, Result}
 use Rattle.paper.specs.Refusal.{wrong_size, out_of_range, short_output}
-use Rattle.paper.specs.Told.{Told, given, refused}
+use Rattle.paper.specs.Told.{given, refused, told}
+use Rattle.paper.specs.declared.refusal.Refusal.{Refusal}
 use Rattle.paper.specs.Over.{over}
 use Rattle.paper.specs.declared.sheet.Sheet.{Sheet}
 use Rattle.registers.specs.Registers.{outside}
 use Rattle.registers.specs.declared.Registers.{Registers}
 use Rattle.controller.specs.State.{State, state, run}
-use Rattle.controller.specs.Turn.{Turn}
+use Rattle.controller.specs.declared.turn.Turn.{Turn}
 use Rattle.bus.specs.Cycles.{cycles_of, turns}
-use Rattle.bus.specs.declared.run.Ran.{Ran}
-use Rattle.bus.specs.declared.run.Ran.TheVariants.{After, Refused}
 
 -- ---- the four outputs, an entry a cycle
 
@@ -56,17 +55,12 @@ run_refusal k r memory short =
 abbrev pub refusal_of : Sheet → Registers → List ℕ → List ℕ → Outputs → ℕ
 refusal_of k r memory cycles o = run_refusal k r (length memory) (too_short (length (cycles_of cycles)) o)
 
--- an answer as the paper tells it
-abbrev pub told_ran : Ran → Told Registers
-told_ran (After r) = given r
-told_ran (Refused n) = refused n
-
 -- what is played: the cycles of the list from the registers r and a memory
 abbrev pub ran_from : Sheet → Registers → List ℕ → List ℕ → State
 ran_from k r memory cycles = run k (state r memory) (cycles_of cycles)
 
 -- what a run promises: the registers and the memory after the cycles and each one's answer; a refusal leaves memory and outputs
-pub record IsRun (k : Sheet) (r : Registers) (before cycles : List ℕ) (o : Outputs) (a : Ran) (left : List ℕ) (o' : Outputs) : Type 0 where
-  pub tells : told_ran a ≡ cond (eqb (refusal_of k r before cycles o) 0) (given (ran_from k r before cycles).registers) (refused (refusal_of k r before cycles o))
+pub record IsRun (k : Sheet) (r : Registers) (before cycles : List ℕ) (o : Outputs) (a : Result Registers Refusal) (left : List ℕ) (o' : Outputs) : Type 0 where
+  pub tells : told a ≡ cond (eqb (refusal_of k r before cycles o) 0) (given (ran_from k r before cycles).registers) (refused (refusal_of k r before cycles o))
   pub leaves : left ≡ cond (eqb (refusal_of k r before cycles o) 0) (ran_from k r before cycles).memory before
   pub answers : o' ≡ cond (eqb (refusal_of k r before cycles o) 0) (answered (turns k (state r before) (cycles_of cycles)) o) o

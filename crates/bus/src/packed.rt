@@ -2,10 +2,12 @@
 ghost use Rattle.bus.specs.Run.{outputs};
 ghost use Rattle.bus.specs.Packed.{RunOn, RunOut};
 
-use crate::run::{Ran, run};
-use paper::sheet::ks0713;
-use state::packed::{State, pack, unpack};
-use state::unfit::{is_unfit, unfit_number};
+use crate::run::run;
+use paper::refusal::Refusal;
+use paper::sheet::{Chip, Ks0713};
+use registers::Registers;
+use state::packed::{State, pack};
+use state::unfit::registers_in;
 
 // The cycles on the registers that the state stands for.
 fn run_on(
@@ -16,15 +18,13 @@ fn run_on(
     reads: &mut [u8],
     bytes: &mut [u8],
     fresh: &mut [u8],
-) -> Ran
+) -> Result<Registers, Refusal>
     ensures { RunOn state.now memory.old cycles.now (outputs numbers.old reads.old bytes.old fresh.old)
         result memory.new (outputs numbers.new reads.new bytes.new fresh.new) }
 {
-    let size = 9 * ks0713().width;
-    if is_unfit(state) {
-        return Ran::Refused(unfit_number(memory.len() != size));
-    }
-    run(unpack(state), memory, cycles, numbers, reads, bytes, fresh)
+    let size = 9 * Ks0713::sheet().width;
+    let registers = registers_in(state, memory.len() != size)?;
+    run::<Ks0713>(registers, memory, cycles, numbers, reads, bytes, fresh)
 }
 
 // Plays the cycles: the state and the memory become what they are after them, and each cycle's answer goes into the outputs.
@@ -42,10 +42,10 @@ pub fn bus_run(
         state.new memory.new (outputs numbers.new reads.new bytes.new fresh.new) result }
 {
     match run_on(&*state, memory, cycles, numbers, reads, bytes, fresh) {
-        Ran::After(registers) => {
+        Ok(registers) => {
             *state = pack(registers);
             0
         }
-        Ran::Refused(number) => number,
+        Err(refusal) => refusal.into(),
     }
 }

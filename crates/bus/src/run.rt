@@ -1,25 +1,18 @@
 // The cycles of a list of bytes, one after the other, each with its answer.
-ghost use Rattle.std.specs.Prelude.{◌≡◌, ◌/◌, ◌≤◌, ◌<◌, length};
-ghost use Rattle.paper.specs.Sheet.{Sensible, sheet0713};
+ghost use Rattle.std.specs.Prelude.{◌≡◌, ◌/◌, ◌≤◌, ◌<◌, length, MatchResult};
+ghost use Rattle.paper.specs.Refusal.{number_of};
 ghost use Rattle.controller.specs.State.{state};
 ghost use Rattle.bus.specs.Cycles.{cycles_of};
 ghost use Rattle.bus.specs.Run.{outputs, run_refusal, IsRun};
 ghost use Rattle.bus.specs.Filling.{TurnPut, Filled};
 
 use controller::turn::take_turn;
-use paper::refusal::{OUT_OF_RANGE, SHORT_OUTPUT, WRONG_SIZE};
-use paper::sheet::{Sheet, ks0713};
+use paper::refusal::Refusal;
+use paper::sheet::Chip;
 use registers::{Registers, outside_range};
 
-// The registers after the cycles, or the number of a refusal.
-#[derive(Clone, Copy)]
-pub enum Ran {
-    After(Registers),
-    Refused(u8),
-}
-
-// One cycle, with its answer put into the outputs at i.
-fn turn_at(
+// One cycle, with its answer put into the outputs at i. The four outputs are lent one by one, as C lends them to `bus_run`.
+fn turn_at<C: Chip>(
     registers: Registers,
     memory: &mut [u8],
     kind: u8,
@@ -31,23 +24,19 @@ fn turn_at(
     fresh: &mut [u8],
 ) -> Registers
     requires { (i < length numbers.old) × (i < length reads.old) × (i < length bytes.old) × (i < length fresh.old) }
-    ensures { TurnPut sheet0713 (state registers memory.old) (kind, value) (outputs numbers.old reads.old bytes.old fresh.old) i
+    ensures { TurnPut C.sheet (state registers memory.old) (kind, value) (outputs numbers.old reads.old bytes.old fresh.old) i
         (state result memory.new) (outputs numbers.new reads.new bytes.new fresh.new) }
 {
-    take_turn(
-        registers,
-        memory,
-        kind,
-        value,
-        &mut numbers[i],
-        &mut reads[i],
-        &mut bytes[i],
-        &mut fresh[i],
-    )
+    let turn = take_turn::<C>(registers, memory, kind, value);
+    numbers[i] = turn.number;
+    reads[i] = turn.read;
+    bytes[i] = turn.byte;
+    fresh[i] = turn.fresh;
+    turn.registers
 }
 
 // All the cycles, each with its answer put into outputs that have room for them.
-fn play_all(
+fn play_all<C: Chip>(
     registers: Registers,
     memory: &mut [u8],
     cycles: &[u8],
@@ -57,51 +46,40 @@ fn play_all(
     fresh: &mut [u8],
 ) -> Registers
     requires { (length cycles.now / 2 ≤ length numbers.old) × (length cycles.now / 2 ≤ length reads.old) × (length cycles.now / 2 ≤ length bytes.old) × (length cycles.now / 2 ≤ length fresh.old) }
-    ensures { Filled sheet0713 (state registers memory.old) (cycles_of cycles.now) (outputs numbers.old reads.old bytes.old fresh.old) 0
+    ensures { Filled C.sheet (state registers memory.old) (cycles_of cycles.now) (outputs numbers.old reads.old bytes.old fresh.old) 0
         (state result memory.new) (outputs numbers.new reads.new bytes.new fresh.new) }
 {
     let mut after = registers;
-    let mut i = 0;
-    while i < cycles.len() / 2 {
-        after = turn_at(
-            after,
-            memory,
-            cycles[2 * i],
-            cycles[2 * i + 1],
-            i,
-            numbers,
-            reads,
-            bytes,
-            fresh,
+    for (i, cycle) in cycles.chunks_exact(2).enumerate() {
+        after = turn_at::<C>(
+            after, memory, cycle[0], cycle[1], i, numbers, reads, bytes, fresh,
         );
-        i += 1;
     }
     after
 }
 
-// The number that a run is refused with, 0 for none.
-fn refusal_of(chip: Sheet, registers: Registers, memory: usize, short: bool) -> u8
-    requires { Sensible chip }
-    ensures { result ≡ run_refusal chip registers memory short }
+// Whether a run is refused, and with what.
+#[tactic(auto, using(paper::proofs::Tests::tests), unfolding(crate::specs::Run::run_refusal))]
+fn check<C: Chip>(registers: Registers, memory: usize, short: bool) -> Result<(), Refusal>
+    ensures { MatchResult result (λ _. run_refusal C.sheet registers memory short ≡ 0) (λ e. run_refusal C.sheet registers memory short ≡ number_of e) }
 {
-    let outside = outside_range(chip, registers);
-    if memory != 9 * chip.width {
-        return WRONG_SIZE;
+    if memory != 9 * C::sheet().width {
+        return Err(Refusal::WrongSize);
     }
-    if outside {
-        return OUT_OF_RANGE;
+    if outside_range(C::sheet(), registers) {
+        return Err(Refusal::OutOfRange);
     }
     if short {
-        return SHORT_OUTPUT;
+        return Err(Refusal::ShortOutput);
     }
-    0
+    Ok(())
 }
 
-// Plays the cycles on the KS0713, two bytes a cycle: kind, value; a last odd byte is no cycle. Answers the registers after them, and
+// Plays the cycles on a chip, two bytes a cycle: kind, value; a last odd byte is no cycle. Answers the registers after them, and
 // puts each cycle's answer into the outputs: its number, whether it read a byte (1 or 0), the byte (0 where it read none), and whether
 // that is a fresh byte of a data read (1 or 0). A cycle that is refused changes nothing, and the next is played. Refuses the whole list
 // with 1, 2, 5, tested in this order, and then leaves memory and outputs as they were. Longer outputs keep their rest.
-pub fn run(
+pub fn run<C: Chip>(
     registers: Registers,
     memory: &mut [u8],
     cycles: &[u8],
@@ -109,8 +87,8 @@ pub fn run(
     reads: &mut [u8],
     bytes: &mut [u8],
     fresh: &mut [u8],
-) -> Ran
-    ensures { IsRun sheet0713 registers memory.old cycles.now (outputs numbers.old reads.old bytes.old fresh.old)
+) -> Result<Registers, Refusal>
+    ensures { IsRun C.sheet registers memory.old cycles.now (outputs numbers.old reads.old bytes.old fresh.old)
         result memory.new (outputs numbers.new reads.new bytes.new fresh.new) }
 {
     let count = cycles.len() / 2;
@@ -118,9 +96,6 @@ pub fn run(
         | (reads.len() < count)
         | (bytes.len() < count)
         | (fresh.len() < count);
-    let number = refusal_of(ks0713(), registers, memory.len(), short);
-    if number != 0 {
-        return Ran::Refused(number);
-    }
-    Ran::After(play_all(registers, memory, cycles, numbers, reads, bytes, fresh))
+    check::<C>(registers, memory.len(), short)?;
+    Ok(play_all::<C>(registers, memory, cycles, numbers, reads, bytes, fresh))
 }

@@ -1,17 +1,21 @@
-// Pictures and memories full of one byte: 1,188 of the KS0713, 900 of the KS0717.
+// Pictures, memories and outputs full of one byte.
+ghost use Rattle.std.specs.Prelude.{◌≡◌, length};
 
-pub(crate) fn zeros() -> [u8; 1188] {
-    [0; 1188]
+// They are made in a function of their own, so that their bytes are not computed where they are used.
+pub(crate) fn full<const N: usize>(byte: u8) -> [u8; N]
+    ensures { N ≡ length result }
+{
+    [byte; N]
 }
 
-pub(crate) fn ones() -> [u8; 1188] {
-    [255; 1188]
+pub(crate) fn zeros<const N: usize>() -> [u8; N]
+    ensures { N ≡ length result }
+{
+    full(0)
 }
 
-pub(crate) fn zeros_ks0717() -> [u8; 900] {
-    [0; 900]
-}
-
-pub(crate) fn ones_ks0717() -> [u8; 900] {
-    [255; 900]
+pub(crate) fn ones<const N: usize>() -> [u8; N]
+    ensures { N ≡ length result }
+{
+    full(255)
 }

@@ -2,9 +2,12 @@
 // its cycles with what they answer, then every register.
 use crate::buffers::zeros;
 use crate::print::{byte, flag, line, pair, refused, told, word};
-use controller::cycle::{Answer, cycle, cycle_ks0717};
+use controller::cycle::{Answer, cycle};
+use controller::turn::registers_after;
 use instructions::added::CommandSet;
 use instructions::instruction::Awaited;
+use paper::refusal::Refusal;
+use paper::sheet::{Chip, Ks0713};
 use registers::start::power_up;
 use registers::{Beside, Column, ModifyRead, Registers};
 
@@ -15,7 +18,7 @@ fn saved(rt: &impl Print, mode: ModifyRead) {
     }
 }
 
-fn awaited_byte(rt: &impl Print, awaited: Awaited) {
+fn awaited_word(rt: &impl Print, awaited: Awaited) {
     match awaited {
         Awaited::Nothing => word(rt, b" nothing"),
         Awaited::Contrast => word(rt, b" contrast"),
@@ -59,7 +62,7 @@ pub(crate) fn show(rt: &impl Print, registers: Registers) {
     byte(rt, registers.holder);
     flag(rt, registers.pin_low);
     saved(rt, mode);
-    awaited_byte(rt, awaited);
+    awaited_word(rt, awaited);
     flag(rt, registers.fresh);
     show_beside(rt, beside);
     line(rt);
@@ -89,100 +92,50 @@ fn read(rt: &impl Print, byte: u8, fresh: bool) {
 }
 
 // A read prints its byte, a data read whether it is fresh, a refusal its number.
-fn tell(rt: &impl Print, answer: Answer) {
+fn tell(rt: &impl Print, answer: Result<Answer, Refusal>) {
     match answer {
-        Answer::Done(_) => (),
-        Answer::Status(byte) => status(rt, byte),
-        Answer::Read(_, byte, fresh) => read(rt, byte, fresh),
-        Answer::Refused(number) => refused(rt, number),
-    }
-}
-
-// The registers after a cycle: where it answers none they stay.
-fn after(registers: Registers, answer: Answer) -> Registers {
-    match answer {
-        Answer::Done(next) => next,
-        Answer::Status(_) => registers,
-        Answer::Read(next, _, _) => next,
-        Answer::Refused(_) => registers,
-    }
-}
-
-// Which chip a case is played on.
-#[derive(Clone, Copy)]
-pub(crate) enum Chip {
-    Ks0713,
-    Ks0717,
-}
-
-fn cycle_of(chip: Chip, registers: Registers, memory: &mut [u8], kind: u8, value: u8) -> Answer {
-    match chip {
-        Chip::Ks0713 => cycle(registers, memory, kind, value),
-        Chip::Ks0717 => cycle_ks0717(registers, memory, kind, value),
+        Ok(Answer::Done(_)) => (),
+        Ok(Answer::Status(byte)) => status(rt, byte),
+        Ok(Answer::Read(_, byte, fresh)) => read(rt, byte, fresh),
+        Err(refusal) => refused(rt, refusal),
     }
 }
 
 // One cycle: its kind and value as in a job file, and what it answers.
-fn play(
+fn play<C: Chip>(
     rt: &impl Print,
-    chip: Chip,
     registers: Registers,
     memory: &mut [u8],
     kind: u8,
     value: u8,
 ) -> Registers {
     pair(rt, kind, value);
-    let answer = cycle_of(chip, registers, memory, kind, value);
+    let answer = cycle::<C>(registers, memory, kind, value);
     tell(rt, answer);
     word(rt, b",");
-    after(registers, answer)
+    registers_after(registers, answer)
 }
 
-// One cycle more, or with FF FF the end of a case: every register is printed, and the next case starts where this one did.
-fn turn(
+// Plays cases, each from the same registers: their cycles as in a job file, kind and value.
+pub(crate) fn run_on<C: Chip>(
     rt: &impl Print,
-    chip: Chip,
-    start: Registers,
-    registers: Registers,
-    memory: &mut [u8],
-    kind: u8,
-    value: u8,
-) -> Registers {
-    if kind == 0xff {
-        show(rt, registers);
-        return start;
-    }
-    play(rt, chip, registers, memory, kind, value)
-}
-
-// Plays cases, each from the same registers: their cycles as in a job file, kind and value, and FF FF after each case.
-pub(crate) fn run_on(
-    rt: &impl Print,
-    chip: Chip,
     start: Registers,
     memory: &mut [u8],
-    cases: &[u8],
+    cases: &[&[u8]],
 ) {
-    let mut registers = start;
-    let mut i = 0;
-    while i < cases.len() / 2 {
-        registers = turn(
-            rt,
-            chip,
-            start,
-            registers,
-            memory,
-            cases[2 * i],
-            cases[2 * i + 1],
-        );
-        i += 1;
+    for case in cases {
+        let mut registers = start;
+        for cycle in case.chunks_exact(2) {
+            registers = play::<C>(rt, registers, memory, cycle[0], cycle[1]);
+        }
+        show(rt, registers);
     }
 }
 
 // On the KS0713, with a memory of zeros.
-pub(crate) fn run(rt: &impl Print, start: Registers, cases: &[u8]) {
-    let mut memory = zeros();
-    run_on(rt, Chip::Ks0713, start, &mut memory, cases);
+pub(crate) fn run(rt: &impl Print, start: Registers, cases: &[&[u8]]) {
+    let mut memory = zeros::<1188>();
+    run_on::<Ks0713>(rt, start, &mut memory, cases);
 }
 
 // Page 3, column 87, start line 10, SHL 1, resistor 5, contrast 42, the indicator on with value 1.
@@ -196,7 +149,7 @@ fn prepared() -> Registers {
         shl: true,
         indicator: true,
         indicator_value: 1,
-        ..power_up()
+        ..power_up::<Ks0713>()
     }
 }
 
@@ -231,58 +184,109 @@ pub(crate) fn altered() -> Registers {
     }
 }
 
-// Each instruction, in the order of document 01's table.
-pub(crate) fn instructions(rt: &impl Print) {
+// The instructions 00 to A7.
+fn to_reverse(rt: &impl Print) {
     // 00 to 7F: low and high bits of column, resistor, power, start line.
     run(
         rt,
         prepared(),
-        b"\x00\x0c\xff\xff\x00\x1a\xff\xff\x00\x26\xff\xff\x00\x2d\xff\xff\x00\x7f\xff\xff",
+        &[
+            b"\x00\x0c",
+            b"\x00\x1a",
+            b"\x00\x26",
+            b"\x00\x2d",
+            b"\x00\x7f",
+        ],
     );
     // 81 to A7: contrast next and its value, ADC, bias, entire, reverse.
     run(
         rt,
         prepared(),
-        b"\x00\x81\xff\xff\x00\x81\x00\xff\xff\xff\x00\xa1\xff\xff\x00\xa3\xff\xff\x00\xa5\xff\xff\x00\xa7\xff\xff",
+        &[
+            b"\x00\x81",
+            b"\x00\x81\x00\xff",
+            b"\x00\xa1",
+            b"\x00\xa3",
+            b"\x00\xa5",
+            b"\x00\xa7",
+        ],
     );
+}
+
+// The instructions AC to E3.
+fn to_nothing(rt: &impl Print) {
     // AC to CF: indicator off, on and its value, display, page, SHL.
     run(
         rt,
         prepared(),
-        b"\x00\xac\xff\xff\x00\xad\xff\xff\x00\xad\x00\xfe\xff\xff\x00\xaf\xff\xff\x00\xb9\xff\xff\x00\xc0\xff\xff",
+        &[
+            b"\x00\xac",
+            b"\x00\xad",
+            b"\x00\xad\x00\xfe",
+            b"\x00\xaf",
+            b"\x00\xb9",
+            b"\x00\xc0",
+        ],
     );
     // E0 to E3: modify-read on, and off again; reset; reset with 87 saved, and EE after it; nothing.
     run(
         rt,
         prepared(),
-        b"\x00\xe0\xff\xff\x00\xe0\x00\xee\xff\xff\x00\xe2\xff\xff\x00\xe0\x00\xe2\xff\xff\x00\xe0\x00\xe2\x00\xee\xff\xff\x00\xe3\xff\xff",
+        &[
+            b"\x00\xe0",
+            b"\x00\xe0\x00\xee",
+            b"\x00\xe2",
+            b"\x00\xe0\x00\xe2",
+            b"\x00\xe0\x00\xe2\x00\xee",
+            b"\x00\xe3",
+        ],
     );
+}
+
+// Each instruction, in the order of document 01's table.
+pub(crate) fn instructions(rt: &impl Print) {
+    to_reverse(rt);
+    to_nothing(rt);
 }
 
 // And the rest of the bus.
 pub(crate) fn cycles(rt: &impl Print) {
     // AD from indicator off, and its value.
-    run(rt, power_up(), b"\x00\xad\xff\xff\x00\xad\x00\x02\xff\xff");
+    run(
+        rt,
+        power_up::<Ks0713>(),
+        &[b"\x00\xad", b"\x00\xad\x00\x02"],
+    );
     // Page 9: a write stores nothing and the column advances; what is then read back is the holder, then 0.
-    run(rt, power_up(), b"\x00\xb9\x01\x5a\x03\x00\x03\x00\xff\xff");
+    run(
+        rt,
+        power_up::<Ks0713>(),
+        &[b"\x00\xb9\x01\x5a\x03\x00\x03\x00"],
+    );
     // Status at power-up, with ADC 1, with display on, with the pin low.
     run(
         rt,
-        power_up(),
-        b"\x02\x00\xff\xff\x00\xa1\x02\x00\xff\xff\x00\xaf\x02\x00\xff\xff\x04\x00\x02\x00\xff\xff",
+        power_up::<Ks0713>(),
+        &[
+            b"\x02\x00",
+            b"\x00\xa1\x02\x00",
+            b"\x00\xaf\x02\x00",
+            b"\x04\x00\x02\x00",
+        ],
     );
     // Pin low, and then high; pin high alone, and then a data read, which tells the mark that it was handed.
     run(
         rt,
         altered(),
-        b"\x04\x00\xff\xff\x04\x00\x05\x00\xff\xff\x05\x00\xff\xff\x05\x00\x03\x00\xff\xff",
+        &[
+            b"\x04\x00",
+            b"\x04\x00\x05\x00",
+            b"\x05\x00",
+            b"\x05\x00\x03\x00",
+        ],
     );
     // A status read and a pin cycle with a value, and a kind above 5: no cycles.
-    run(
-        rt,
-        altered(),
-        b"\x02\x01\xff\xff\x05\x01\xff\xff\x06\x00\xff\xff",
-    );
+    run(rt, altered(), &[b"\x02\x01", b"\x05\x01", b"\x06\x00"]);
 }
 
 // E2 where every register is away from its start value: with the pin low; with contrast awaited, and once more with nothing awaited.
@@ -291,7 +295,11 @@ pub(crate) fn resets(rt: &impl Print) {
     run(
         rt,
         altered(),
-        b"\x00\xe2\xff\xff\x05\x00\x00\xe2\xff\xff\x05\x00\x00\xe2\x00\xe2\xff\xff",
+        &[
+            b"\x00\xe2",
+            b"\x05\x00\x00\xe2",
+            b"\x05\x00\x00\xe2\x00\xe2",
+        ],
     );
-    run(rt, power_up(), b"\x00\xad\x00\xe2\xff\xff");
+    run(rt, power_up::<Ks0713>(), &[b"\x00\xad\x00\xe2"]);
 }

@@ -10,13 +10,15 @@ mod print;
 mod recording;
 mod stream_cases;
 
+use paper::sheet::{Ks0713, Ks0717};
+
 fn main(rt: HostRuntime) {
     chip::instructions(&rt);
     chip::cycles(&rt);
     chip::resets(&rt);
     glass_cases::frames(&rt);
     glass_cases::powers(&rt);
-    glass_cases::voltages(&rt);
+    glass_cases::voltages::<Ks0713>(&rt);
     stream_cases::lengths(&rt);
     stream_cases::redraws(&rt);
     ks0717::heading(&rt);
@@ -24,7 +26,7 @@ fn main(rt: HostRuntime) {
     ks0717::instructions(&rt);
     ks0717::frames(&rt);
     ks0717::powers(&rt);
-    ks0717::voltages(&rt);
+    glass_cases::voltages::<Ks0717>(&rt);
     ks0717::lengths(&rt);
     ks0717::redraws(&rt);
     recording::texts(&rt);

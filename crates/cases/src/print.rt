@@ -1,4 +1,5 @@
 // Words and numbers on standard output.
+use paper::refusal::Refusal;
 
 pub(crate) fn word(rt: &impl Print, text: &[u8]) {
     let _ = rt.write_all(text);
@@ -23,11 +24,7 @@ pub(crate) fn pair(rt: &impl Print, kind: u8, value: u8) {
 
 // A space and a 0 or 1.
 pub(crate) fn flag(rt: &impl Print, on: bool) {
-    if on {
-        number(rt, 1);
-    } else {
-        number(rt, 0);
-    }
+    number(rt, on as usize);
 }
 
 pub(crate) fn line(rt: &impl Print) {
@@ -40,6 +37,6 @@ pub(crate) fn told(rt: &impl Print, text: &[u8], n: u8) {
     byte(rt, n);
 }
 
-pub(crate) fn refused(rt: &impl Print, n: u8) {
-    told(rt, b" refused", n);
+pub(crate) fn refused(rt: &impl Print, refusal: Refusal) {
+    told(rt, b" refused", refusal.into());
 }

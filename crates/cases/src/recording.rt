@@ -1,24 +1,22 @@
 // The recorder: texts that are read, good and bad, and what its writers refuse.
-ghost use Rattle.std.specs.Prelude.{◌≡◌, length};
-
-use crate::buffers::zeros;
+use crate::buffers::{full, zeros};
 use crate::print::{byte, line, number, refused, word};
 use crate::stream_cases::answer;
 use instructions::added::CommandSet;
 use recorder::job::write_job;
-use recorder::text::{Lines, read_text, write_text};
+use recorder::text::{Unread, read_text, write_text};
 
-fn lines(rt: &impl Print, answer: Lines) {
+fn lines(rt: &impl Print, answer: Result<usize, Unread>) {
     match answer {
-        Lines::Cycles(n) => {
+        Ok(n) => {
             word(rt, b" cycles");
             number(rt, n);
         }
-        Lines::BadLine(n) => {
+        Err(Unread::BadLine(n)) => {
             word(rt, b" bad line");
             number(rt, n);
         }
-        Lines::Refused(n) => refused(rt, n),
+        Err(Unread::Refused(refusal)) => refused(rt, refusal),
     }
     line(rt);
 }
@@ -29,13 +27,6 @@ fn read(rt: &impl Print, what: &[u8], text: &[u8], room: &mut [u8]) {
     word(rt, b" into");
     number(rt, room.len());
     lines(rt, read_text(text, room));
-}
-
-// The first n bytes of a text, where it has so many.
-fn read_front(rt: &impl Print, what: &[u8], text: &[u8], n: usize, room: &mut [u8]) {
-    if n <= text.len() {
-        read(rt, what, &text[0..n], room);
-    }
 }
 
 // Good texts: none, and one with all six letters; then what makes a line bad.
@@ -65,44 +56,23 @@ pub(crate) fn texts(rt: &impl Print) {
     read(rt, b"one digit", b"d 7\n", &mut room);
 }
 
-// 16,001 status reads as text, but for their newlines, and a letter.
-fn letters() -> [u8; 32003]
-    ensures { 32003 ≡ length result }
-{
-    [115; 32003]
-}
-
-fn cycles_room() -> [u8; 32000]
-    ensures { 32000 ≡ length result }
-{
-    [0; 32000]
-}
-
-fn less_room() -> [u8; 31999]
-    ensures { 31999 ≡ length result }
-{
-    [0; 31999]
-}
-
 // A newline after each letter that has one behind it.
 fn end_lines(text: &mut [u8]) {
-    let mut i = 0;
-    while i < text.len() / 2 {
-        text[2 * i + 1] = b'\n';
-        i += 1;
+    for line in text.chunks_exact_mut(2) {
+        line[1] = b'\n';
     }
 }
 
-// As many lines as a job has cycles, one more, and one more that is bad.
+// As many lines as a job has cycles, one more, and one more that is bad: 16,001 status reads as text, and a letter.
 pub(crate) fn long_texts(rt: &impl Print) {
-    let mut text = letters();
-    let mut cycles = cycles_room();
-    let mut less = less_room();
+    let mut text = full::<32003>(b's');
+    let mut cycles = zeros::<32000>();
+    let mut less = zeros::<31999>();
     end_lines(&mut text);
-    read_front(rt, b"16,000 lines", &text, 32000, &mut cycles);
-    read_front(rt, b"16,000 lines", &text, 32000, &mut less);
-    read_front(rt, b"16,001 lines", &text, 32002, &mut cycles);
-    read_front(rt, b"and one that is bad", &text, 32003, &mut cycles);
+    read(rt, b"16,000 lines", &text[0..32000], &mut cycles);
+    read(rt, b"16,000 lines", &text[0..32000], &mut less);
+    read(rt, b"16,001 lines", &text[0..32002], &mut cycles);
+    read(rt, b"and one that is bad", &text, &mut cycles);
 }
 
 // Cycles, written as text into room for so many bytes.
@@ -124,24 +94,6 @@ pub(crate) fn writings(rt: &impl Print) {
     text_of(rt, b"a status read of 01", b"\x02\x01", &mut room);
 }
 
-fn two_pictures() -> [u8; 2376]
-    ensures { 2376 ≡ length result }
-{
-    [0; 2376]
-}
-
-fn three_pictures() -> [u8; 3564]
-    ensures { 3564 ≡ length result }
-{
-    [0; 3564]
-}
-
-fn three_less_a_byte() -> [u8; 3563]
-    ensures { 3563 ≡ length result }
-{
-    [0; 3563]
-}
-
 // A job of a command set, written into room for so many bytes.
 fn job_of(
     rt: &impl Print,
@@ -160,7 +112,7 @@ fn job_of(
 
 // No cycles and one picture, with room and without; and a cycle that is none.
 pub(crate) fn jobs(rt: &impl Print) {
-    let picture = zeros();
+    let picture = zeros::<1188>();
     let mut room = [0u8; 1196];
     let mut less = [0u8; 1195];
     job_of(
@@ -194,9 +146,9 @@ pub(crate) fn jobs(rt: &impl Print) {
 
 // Three pictures, three of which one is a byte short, and one that is told as two.
 pub(crate) fn picture_counts(rt: &impl Print) {
-    let picture = zeros();
-    let pictures = three_pictures();
-    let short = three_less_a_byte();
+    let picture = zeros::<1188>();
+    let pictures = zeros::<3564>();
+    let short = zeros::<3563>();
     let mut room = [0u8; 1196];
     job_of(
         rt,
@@ -227,24 +179,12 @@ pub(crate) fn picture_counts(rt: &impl Print) {
     );
 }
 
-fn many_cycles() -> [u8; 32002]
-    ensures { 32002 ≡ length result }
-{
-    [0; 32002]
-}
-
-fn job_room() -> [u8; 34384]
-    ensures { 34384 ≡ length result }
-{
-    [0; 34384]
-}
-
 // As many cycles and pictures as a job has, which is the longest; and a cycle more.
 pub(crate) fn long_jobs(rt: &impl Print) {
-    let cycles = cycles_room();
-    let many = many_cycles();
-    let pictures = two_pictures();
-    let mut room = job_room();
+    let cycles = zeros::<32000>();
+    let many = zeros::<32002>();
+    let pictures = zeros::<2376>();
+    let mut room = zeros::<34384>();
     job_of(
         rt,
         b"the longest",
@@ -267,8 +207,8 @@ pub(crate) fn long_jobs(rt: &impl Print) {
 
 // The new command set: one picture, and two, which are one too many.
 pub(crate) fn new_jobs(rt: &impl Print) {
-    let picture = zeros();
-    let pictures = two_pictures();
+    let picture = zeros::<1188>();
+    let pictures = zeros::<2376>();
     let mut room = [0u8; 1196];
     job_of(
         rt,

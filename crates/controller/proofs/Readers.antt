@@ -16,7 +16,7 @@ use Rattle.paper.specs.Sheet.{Sensible, sheet0717}
 use Rattle.paper.specs.declared.sheet.Sheet.{Sheet}
 use Rattle.paper.proofs.Cases.{chosen, less}
 use Rattle.paper.proofs.Exactly.{Exactly}
-use Rattle.paper.proofs.Sensible.{sensible0717}
+use Rattle.paper.specs.Sheet.{sensible0717}
 use Rattle.instructions.specs.Read.{read_of}
 use Rattle.instructions.specs.Added.{read_added}
 use Rattle.instructions.specs.declared.added.Added.{Added}

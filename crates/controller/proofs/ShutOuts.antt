@@ -8,7 +8,9 @@ use mathlib.Core.Option.{Option, some}
 use mathlib.Core.List.{List}
 use native.Mathlib.Omega.{arith}
 use lib.ListN.{length}
+use Rattle.std.specs.Prelude.{Result}
 use Rattle.paper.specs.Sheet.{Sensible}
+use Rattle.paper.specs.declared.refusal.Refusal.{Refusal}
 use Rattle.paper.specs.declared.sheet.Sheet.{Sheet}
 use Rattle.instructions.specs.declared.added.CommandSet.TheVariants.{Old}
 use Rattle.registers.specs.Registers.{outside, with_adc, start}
@@ -21,14 +23,14 @@ use Rattle.controller.proofs.Spelled.{status_answered}
 
 module _ (k : Sheet) where
   -- a status read of a usable chip answers the status byte of its registers
-  pub status_told : (r : Registers) (m : List ℕ) (a : Answer) (left : List ℕ) → Restartable k (state r m) → Cycled k r m 2 0 a left
+  pub status_told : (r : Registers) (m : List ℕ) (a : Result Answer Refusal) (left : List ℕ) → Restartable k (state r m) → Cycled k r m 2 0 a left
       → (outcome a).byte ≡ some (status r)
   status_told r m a left h f = ap (λ o. o.byte) (f.tells ∙ status_answered k (state r m) h.long h.ranged)
 
   usable : (r : Registers) (m : List ℕ) → length m ≡ 9 * k.width → outside k r ≡ false → r.pin_low ≡ false → r.beside.set ≡ Old → Restartable k (state r m)
   usable r m long e high old = record { long = long; ranged = e; high = high; old = old }
 
-  pub answers_differ : Sensible k → (m : List ℕ) (a b : Answer) (left right : List ℕ) → length m ≡ 9 * k.width
+  pub answers_differ : Sensible k → (m : List ℕ) (a b : Result Answer Refusal) (left right : List ℕ) → length m ≡ 9 * k.width
       → Cycled k (start k 0 false) m 2 0 a left → Cycled k (with_adc (start k 0 false) true) m 2 0 b right → a ≢ b
   unfolding status
   answers_differ g m a b left right long f h e =

@@ -8,10 +8,12 @@ use mathlib.Core.Option.{Option, none, some}
 use mathlib.Core.List.{List}
 use lib.ListN.{length}
 use lib.Dec.{eqb}
+use Rattle.std.specs.Prelude.{Result, Ok, Err}
 use Rattle.paper.specs.Refusal.{wrong_size, out_of_range, pin_low, unassigned, wrong_cycle}
+use Rattle.paper.specs.declared.refusal.Refusal.{Refusal}
 use Rattle.paper.specs.declared.sheet.Sheet.{Sheet}
 use Rattle.paper.proofs.Cases.{chosen}
-use Rattle.paper.proofs.Telling.{apart}
+use Rattle.paper.proofs.Telling.{apart, number_one, number_some}
 use Rattle.instructions.specs.Read.{read_of, nothing_awaited}
 use Rattle.instructions.specs.Added.{of_other, read_added, assigned_in}
 use Rattle.instructions.specs.declared.added.Added.{Added}
@@ -22,34 +24,45 @@ use Rattle.instructions.proofs.Unique.{told_number, number_by, number_read, numb
 use Rattle.registers.specs.Registers.{outside}
 use Rattle.registers.specs.declared.Registers.{Registers}
 use Rattle.registers.proofs.InRange.{own_awaited}
-use Rattle.controller.specs.Cycle.{Outcome, outcome, refused_with, instructed_by, instructed_added_by, instructed_in, malformed, held_low, unread, refusal, carried, cycle_number, answer, Cycled}
+use Rattle.controller.specs.Cycle.{Outcome, answered, outcome, refused_with, instructed_by, instructed_added_by, instructed_in, malformed, held_low, unread, refusal, carried, cycle_number, answer, Cycled}
 use Rattle.controller.specs.declared.cycle.Answer.{Answer}
-use Rattle.controller.specs.declared.cycle.Answer.TheVariants.{Done, Status, Read, Refused}
+use Rattle.controller.specs.declared.cycle.Answer.TheVariants.{Done, Status, Read}
 
 -- ---- one answer
 
 back : Outcome → Answer
-back o = by o.number o.byte o.fresh o.registers
+back o = by o.byte o.fresh o.registers
   where
-    -- a byte without a mark is a status byte, whatever the registers
-    by : ℕ → Option ℕ → Option Bool → Option Registers → Answer
-    by n none f none = Refused n
-    by n none f (some r) = Done r
-    by n (some b) f none = Status b
-    by n (some b) none (some r) = Status b
-    by n (some b) (some f) (some r) = Read r b f
+    -- a byte without a mark is a status byte, whatever the registers; and what has neither byte nor registers is no answer
+    by : Option ℕ → Option Bool → Option Registers → Answer
+    by none f none = Status 0
+    by none f (some r) = Done r
+    by (some b) f none = Status b
+    by (some b) none (some r) = Status b
+    by (some b) (some f) (some r) = Read r b f
 
-back_is : (a : Answer) → back (outcome a) ≡ a
+back_is : (a : Answer) → back (answered a) ≡ a
 unfolding back
 back_is (Done r) = refl
 back_is (Status b) = refl
 back_is (Read r b f) = refl
-back_is (Refused n) = refl
+
+-- an answer has no number
+unnumbered : (a : Answer) → (answered a).number ≡ 0
+unnumbered (Done r) = refl
+unnumbered (Status b) = refl
+unnumbered (Read r b f) = refl
+
+outcome_one : (a b : Result Answer Refusal) → outcome a ≡ outcome b → a ≡ b
+outcome_one (Ok a) (Ok b) e = ap Ok (apart answered back back_is a b e)
+outcome_one (Ok a) (Err s) e = absurd (number_some s (sym (ap (λ o. o.number) e) ∙ unnumbered a))
+outcome_one (Err r) (Ok b) e = absurd (number_some r (ap (λ o. o.number) e ∙ unnumbered b))
+outcome_one (Err r) (Err s) e = ap Err (number_one r s (ap (λ o. o.number) e))
 
 -- two answers and two memories that a cycle's promise admits are equal
-pub cycled_one : {k : Sheet} {r : Registers} {m : List ℕ} {kind value : ℕ} {a b : Answer} {left right : List ℕ}
+pub cycled_one : {k : Sheet} {r : Registers} {m : List ℕ} {kind value : ℕ} {a b : Result Answer Refusal} {left right : List ℕ}
     → Cycled k r m kind value a left → Cycled k r m kind value b right → (a ≡ b) × (left ≡ right)
-cycled_one {a = a} {b = b} f g = (apart outcome back back_is a b (f.tells ∙ sym g.tells), f.leaves ∙ sym g.leaves)
+cycled_one {a = a} {b = b} f g = (outcome_one a b (f.tells ∙ sym g.tells), f.leaves ∙ sym g.leaves)
 
 -- ---- its number
 

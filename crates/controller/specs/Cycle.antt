@@ -1,9 +1,10 @@
 -- One cycle on the bus: what it answers, and what the memory holds after it.
 -- Assumes nothing.
-use Rattle.std.specs.Prelude.{ℕ, ◌+◌, ◌*◌, ◌≡◌, Bool, true, false, cond, not, ◌&&◌, ◌||◌, List, length, ltb, eqb}
+use Rattle.std.specs.Prelude.{ℕ, ◌+◌, ◌*◌, ◌≡◌, Bool, true, false, cond, not, ◌&&◌, ◌||◌, List, length, ltb, eqb, Result, Ok, Err}
 use Rattle.std.proofs.Math.Option.{Option, none, some}
-use Rattle.paper.specs.Refusal.{wrong_size, out_of_range, pin_low, unassigned, wrong_cycle}
+use Rattle.paper.specs.Refusal.{wrong_size, out_of_range, pin_low, unassigned, wrong_cycle, number_of}
 use Rattle.paper.specs.Told.{Told}
+use Rattle.paper.specs.declared.refusal.Refusal.{Refusal}
 use Rattle.paper.specs.declared.sheet.Sheet.{Sheet}
 use Rattle.instructions.specs.Read.{read_of, nothing_awaited}
 use Rattle.instructions.specs.Added.{read_added, assigned_in}
@@ -19,7 +20,7 @@ use Rattle.controller.specs.Execute.{executed, ends_reading}
 use Rattle.controller.specs.Added.{executed_added}
 use Rattle.controller.specs.Memory.{stored, loaded, advanced}
 use Rattle.controller.specs.declared.cycle.Answer.{Answer}
-use Rattle.controller.specs.declared.cycle.Answer.TheVariants.{Done, Status, Read, Refused}
+use Rattle.controller.specs.declared.cycle.Answer.TheVariants.{Done, Status, Read}
 
 -- ---- an answer as the paper tells it
 
@@ -43,11 +44,14 @@ data_read b f r = record { number = 0; byte = some b; fresh = some f; registers 
 abbrev pub refused_with : ℕ → Outcome
 refused_with n = record { number = n; byte = none; fresh = none; registers = none }
 
-abbrev pub outcome : Answer → Outcome
-outcome (Done r) = done r
-outcome (Status b) = status_read b
-outcome (Read r b f) = data_read b f r
-outcome (Refused n) = refused_with n
+abbrev pub answered : Answer → Outcome
+answered (Done r) = done r
+answered (Status b) = status_read b
+answered (Read r b f) = data_read b f r
+
+abbrev pub outcome : Result Answer Refusal → Outcome
+outcome (Ok a) = answered a
+outcome (Err e) = refused_with (number_of e)
 
 -- ---- the six kinds
 
@@ -151,6 +155,6 @@ unfoldable pub memory_after : Sheet → Registers → List ℕ → ℕ → ℕ �
 memory_after k r m kind value = cond (eqb (refusal k (length m) r kind value) 0) (kept k.width r m kind value) m
 
 -- what a cycle promises: its answer, and the memory that it leaves
-pub record Cycled (k : Sheet) (r : Registers) (before : List ℕ) (kind value : ℕ) (a : Answer) (left : List ℕ) : Type 0 where
+pub record Cycled (k : Sheet) (r : Registers) (before : List ℕ) (kind value : ℕ) (a : Result Answer Refusal) (left : List ℕ) : Type 0 where
   pub tells : outcome a ≡ answer k r before kind value
   pub leaves : left ≡ memory_after k r before kind value

@@ -7,16 +7,9 @@ use Rattle.paper.specs.declared.sheet.Sheet.{Sheet}
 use Rattle.registers.specs.declared.Registers.{Registers}
 use Rattle.controller.specs.Cycle.{Outcome, answer, memory_after}
 use Rattle.controller.specs.State.{after_by}
+use Rattle.controller.specs.declared.turn.Turn.{Turn}
 
--- the registers after a cycle, the number that it is refused with, 0 for none, 1 where it read a byte, else 0, the byte, and 1 where it
--- is a data read's and fresh, else 0
-pub record Turn : Type 0 where
-  pub registers : Registers
-  pub number : ℕ
-  pub read : ℕ
-  pub byte : ℕ
-  pub fresh : ℕ
-
+-- an answer in numbers
 abbrev pub turn : Registers → ℕ → ℕ → ℕ → ℕ → Turn
 turn registers number read byte fresh = record { registers = registers; number = number; read = read; byte = byte; fresh = fresh }
 

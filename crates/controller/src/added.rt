@@ -5,7 +5,6 @@ ghost use Rattle.controller.specs.Added.{com0_set, duty_set, lines_of, executed_
 use instructions::added::Added;
 use instructions::instruction::Awaited;
 use registers::Registers;
-use registers::setters::{with_awaited, with_com0, with_duty, with_inversion};
 
 // Initial COM0 after a second byte: 0 to 79 set it.
 fn com0_set(now: u8, value: u8) -> u8
@@ -36,20 +35,22 @@ pub(crate) fn execute_added(registers: Registers, added: Added) -> Registers
     ensures { result ≡ executed_added registers added }
 {
     match added {
-        Added::Com0Next => with_awaited(registers, Awaited::Com0),
+        Added::Com0Next => registers.with_awaited(Awaited::Com0),
         Added::Com0Value(v) => {
             let com0 = com0_set(registers.beside.com0, v);
-            with_awaited(with_com0(registers, com0), Awaited::Nothing)
+            registers.with_com0(com0).with_awaited(Awaited::Nothing)
         }
-        Added::DutyNext => with_awaited(registers, Awaited::Duty),
+        Added::DutyNext => registers.with_awaited(Awaited::Duty),
         Added::DutyValue(v) => {
             let duty = duty_set(registers.beside.duty, v);
-            with_awaited(with_duty(registers, duty), Awaited::Nothing)
+            registers.with_duty(duty).with_awaited(Awaited::Nothing)
         }
-        Added::InversionNext => with_awaited(registers, Awaited::Inversion),
+        Added::InversionNext => registers.with_awaited(Awaited::Inversion),
         Added::InversionValue(v) => {
-            with_awaited(with_inversion(registers, lines_of(v)), Awaited::Nothing)
+            registers
+                .with_inversion(lines_of(v))
+                .with_awaited(Awaited::Nothing)
         }
-        Added::FrameInversion => with_inversion(registers, 0),
+        Added::FrameInversion => registers.with_inversion(0),
     }
 }

@@ -4,35 +4,31 @@ ghost use Rattle.controller.specs.Execute.{saved, restored, reset, low_set, high
 
 use instructions::instruction::{Awaited, Instruction};
 use paper::sheet::Sheet;
-use registers::setters::{
-    with_adc, with_awaited, with_bias, with_column, with_contrast, with_entire, with_indicator,
-    with_indicator_value, with_modify_read, with_on, with_page, with_power, with_resistor,
-    with_reverse, with_shl, with_start_line,
-};
 use registers::start::started;
 use registers::{Column, ModifyRead, Registers};
 
+// These are no methods: the registers are another crate's.
+
 // E0: the column is saved, unless one is.
-fn save(registers: Registers, mode: ModifyRead) -> Registers
-    ensures { result ≡ saved registers mode }
+fn save(registers: Registers) -> Registers
+    ensures { result ≡ saved registers registers.modify_read }
 {
-    match mode {
-        ModifyRead::Off => {
-            let column = registers.column;
-            with_modify_read(registers, ModifyRead::On(column))
-        }
+    match registers.modify_read {
+        ModifyRead::Off => registers.with_modify_read(ModifyRead::On(registers.column)),
         ModifyRead::On(_) => registers,
     }
 }
 
 // EE: the saved column comes back, where there is one.
-fn restore(registers: Registers, mode: ModifyRead) -> Registers
-    ensures { result ≡ restored registers mode }
+fn restore(registers: Registers) -> Registers
+    ensures { result ≡ restored registers registers.modify_read }
 {
-    match mode {
+    match registers.modify_read {
         ModifyRead::Off => registers,
         ModifyRead::On(column) => {
-            with_modify_read(with_column(registers, column), ModifyRead::Off)
+            registers
+                .with_column(column)
+                .with_modify_read(ModifyRead::Off)
         }
     }
 }
@@ -43,10 +39,9 @@ fn reset(chip: Sheet, registers: Registers) -> Registers
     ensures { result ≡ reset chip registers }
 {
     let first = started(chip, 0, false);
-    let column = Column(0);
     Registers {
         start_line: 0,
-        column,
+        column: Column(0),
         page: 0,
         shl: false,
         modify_read: ModifyRead::Off,
@@ -62,45 +57,48 @@ fn reset(chip: Sheet, registers: Registers) -> Registers
 fn column_low(registers: Registers, low: u8) -> Registers
     ensures { result ≡ low_set registers low }
 {
-    with_column(registers, Column(registers.column.0 / 16 * 16 + low % 16))
+    registers.with_column(Column(registers.column.0 / 16 * 16 + low % 16))
 }
 
 fn column_high(registers: Registers, high: u8) -> Registers
     ensures { result ≡ high_set registers high }
 {
-    with_column(registers, Column(high % 16 * 16 + registers.column.0 % 16))
+    registers.with_column(Column(high % 16 * 16 + registers.column.0 % 16))
 }
 
 pub(crate) fn execute(chip: Sheet, registers: Registers, instruction: Instruction) -> Registers
     ensures { result ≡ executed chip registers instruction }
 {
-    let mode = registers.modify_read;
     match instruction {
         Instruction::ColumnLow(v) => column_low(registers, v),
         Instruction::ColumnHigh(v) => column_high(registers, v),
-        Instruction::Resistor(v) => with_resistor(registers, v),
-        Instruction::Power(v) => with_power(registers, v),
-        Instruction::StartLine(v) => with_start_line(registers, v),
-        Instruction::ContrastNext => with_awaited(registers, Awaited::Contrast),
+        Instruction::Resistor(v) => registers.with_resistor(v),
+        Instruction::Power(v) => registers.with_power(v),
+        Instruction::StartLine(v) => registers.with_start_line(v),
+        Instruction::ContrastNext => registers.with_awaited(Awaited::Contrast),
         Instruction::ContrastValue(v) => {
-            with_awaited(with_contrast(registers, v), Awaited::Nothing)
+            registers.with_contrast(v).with_awaited(Awaited::Nothing)
         }
-        Instruction::Adc(f) => with_adc(registers, f),
-        Instruction::Bias(f) => with_bias(registers, f),
-        Instruction::Entire(f) => with_entire(registers, f),
-        Instruction::Reverse(f) => with_reverse(registers, f),
-        Instruction::IndicatorOff => with_indicator(registers, false),
+        Instruction::Adc(f) => registers.with_adc(f),
+        Instruction::Bias(f) => registers.with_bias(f),
+        Instruction::Entire(f) => registers.with_entire(f),
+        Instruction::Reverse(f) => registers.with_reverse(f),
+        Instruction::IndicatorOff => registers.with_indicator(false),
         Instruction::IndicatorOn => {
-            with_awaited(with_indicator(registers, true), Awaited::Indicator)
+            registers
+                .with_indicator(true)
+                .with_awaited(Awaited::Indicator)
         }
         Instruction::IndicatorValue(v) => {
-            with_awaited(with_indicator_value(registers, v), Awaited::Nothing)
+            registers
+                .with_indicator_value(v)
+                .with_awaited(Awaited::Nothing)
         }
-        Instruction::Display(f) => with_on(registers, f),
-        Instruction::Page(v) => with_page(registers, v),
-        Instruction::Shl(f) => with_shl(registers, f),
-        Instruction::ModifyReadOn => save(registers, mode),
-        Instruction::ModifyReadOff => restore(registers, mode),
+        Instruction::Display(f) => registers.with_on(f),
+        Instruction::Page(v) => registers.with_page(v),
+        Instruction::Shl(f) => registers.with_shl(f),
+        Instruction::ModifyReadOn => save(registers),
+        Instruction::ModifyReadOff => restore(registers),
         Instruction::Reset => reset(chip, registers),
         Instruction::Nop => registers,
     }
@@ -111,26 +109,12 @@ pub(crate) fn ends_reading(instruction: Instruction) -> bool
     ensures { result ≡ ends_reading instruction }
 {
     match instruction {
-        Instruction::ColumnLow(_) => true,
-        Instruction::ColumnHigh(_) => true,
-        Instruction::Resistor(_) => false,
-        Instruction::Power(_) => false,
-        Instruction::StartLine(_) => false,
-        Instruction::ContrastNext => false,
-        Instruction::ContrastValue(_) => false,
-        Instruction::Adc(_) => false,
-        Instruction::Bias(_) => false,
-        Instruction::Entire(_) => false,
-        Instruction::Reverse(_) => false,
-        Instruction::IndicatorOff => false,
-        Instruction::IndicatorOn => false,
-        Instruction::IndicatorValue(_) => false,
-        Instruction::Display(_) => false,
-        Instruction::Page(_) => true,
-        Instruction::Shl(_) => false,
-        Instruction::ModifyReadOn => true,
-        Instruction::ModifyReadOff => true,
-        Instruction::Reset => true,
-        Instruction::Nop => false,
+        Instruction::ColumnLow(_)
+        | Instruction::ColumnHigh(_)
+        | Instruction::Page(_)
+        | Instruction::ModifyReadOn
+        | Instruction::ModifyReadOff
+        | Instruction::Reset => true,
+        _ => false,
     }
 }

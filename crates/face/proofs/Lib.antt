@@ -1,4 +1,3 @@
-pub mod Sizes
 pub mod Numbering
 pub mod AddedNumbering
 pub mod Promised

@@ -12,7 +12,10 @@ use lib.ListN.{length}
 use lib.Dec.{T, ltb}
 use borrow.Author.Tests.{lt-ltb, ltb-false, le-ltb}
 use Rattle.paper.specs.Refusal.{wrong_size, out_of_range, outside_field}
-use Rattle.paper.specs.Told.{Told, given, refused}
+use Rattle.std.specs.Prelude.{Result}
+use Rattle.paper.specs.Told.{Told, given, refused, told}
+use Rattle.paper.specs.declared.refusal.Refusal.{Refusal}
+use Rattle.paper.proofs.Telling.{told_one}
 use Rattle.paper.specs.Sheet.{Sensible}
 use Rattle.paper.specs.declared.sheet.Sheet.{Sheet}
 use Rattle.paper.specs.Answers.{left_by, Through, same}
@@ -20,11 +23,10 @@ use Rattle.paper.proofs.Cases.{split}
 use Rattle.paper.proofs.Exactly.{Exactly, then, both, same_number, past, only}
 use Rattle.paper.proofs.Either.{or_left, or_right}
 use Rattle.paper.proofs.Answering.{answers_one, if_split, if_both, test_number, number_number}
-use Rattle.instructions.specs.Read.{told_reading, assigned, nothing_awaited}
+use Rattle.instructions.specs.Read.{assigned, nothing_awaited}
 use Rattle.instructions.specs.Added.{of_other}
 use Rattle.instructions.specs.declared.added.CommandSet.TheVariants.{Old}
-use Rattle.instructions.specs.Write.{write_of, told_writing, OutsideField, IsWritten}
-use Rattle.instructions.specs.declared.write.Writing.{Writing}
+use Rattle.instructions.specs.Write.{write_of, OutsideField, IsWritten}
 use Rattle.instructions.proofs.Unique.{read_one, written_one, number_read, number_written_6}
 use Rattle.registers.specs.Registers.{outside}
 use Rattle.registers.specs.declared.Registers.{Registers}
@@ -34,9 +36,9 @@ use Rattle.controller.specs.Run.{BusCycle}
 use Rattle.controller.specs.Cycle.{outcome, cycle_number}
 use Rattle.controller.proofs.Keeping.{stays_inside}
 use Rattle.controller.proofs.Unique.{cycled_one, number_exactly}
-use Rattle.glass.specs.Frame.{told_shown, refusal}
-use Rattle.glass.specs.Power.{told_power}
-use Rattle.glass.specs.Voltage.{Fraction, v0_of, told_voltage, v0_of0717, told_voltage0717}
+use Rattle.glass.specs.Frame.{refusal}
+use Rattle.glass.specs.Voltage.{v0_of, v0_of0717}
+use Rattle.glass.specs.declared.voltage.Fraction.{Fraction}
 use Rattle.glass.proofs.Promised.{power_one, voltage_one, voltage_0717_one, shown_one}
 use Rattle.streams.specs.Picture.{differs}
 use Rattle.streams.specs.Update.{update_stream}
@@ -45,7 +47,6 @@ use Rattle.streams.specs.Redraw.{redraw_stream}
 use Rattle.streams.specs.Shape.{group}
 use Rattle.planner.specs.Pictures.{misfit}
 use Rattle.planner.specs.First.{told_found}
-use Rattle.planner.specs.Count.{told_count}
 use Rattle.planner.specs.Sent.{Sent, update_refusal, redraw_refusal}
 use Rattle.planner.specs.Group.{group_refusal}
 use Rattle.planner.proofs.Exactly.{RightSize, LongOutput as Room, wrong_size_lem, right_size}
@@ -76,21 +77,21 @@ module _ (k : Sheet) (s m : List ℕ) (kind value read byte fresh : ℕ) where
   pub cycle_one : {s₁ s₂ m₁ m₂ : List ℕ} {read₁ read₂ byte₁ byte₂ fresh₁ fresh₂ r₁ r₂ : ℕ}
       → CycleOut k s m kind value read byte fresh s₁ m₁ read₁ byte₁ fresh₁ r₁ → CycleOut k s m kind value read byte fresh s₂ m₂ read₂ byte₂ fresh₂ r₂
       → (s₁ ≡ s₂) × (m₁ ≡ m₂) × (read₁ ≡ read₂) × (byte₁ ≡ byte₂) × (fresh₁ ≡ fresh₂) × (r₁ ≡ r₂)
-  cycle_one f g =
-      let p = if_both (unfit s) f.promised g.promised (λ p q. (p.0 ∙ sym q.0, p.1 ∙ sym q.1)) (λ p q. cycled_one p q) in
+  cycle_one {m₁ = m₁} {m₂ = m₂} f g =
+      let p = if_both {X = (outcome f.answer ≡ outcome g.answer) × (m₁ ≡ m₂)} (unfit s) f.promised g.promised (λ p q. (p.0 ∙ sym q.0, p.1 ∙ sym q.1)) (λ p q. let c = cycled_one p q in (ap outcome c.0, c.1)) in
       let e = p.0 in (
-        f.told.state_left ∙ ap (λ a. left_by packed s (outcome a).registers) e ∙ sym g.told.state_left,
+        f.told.state_left ∙ ap (λ o. left_by packed s o.registers) e ∙ sym g.told.state_left,
         p.1,
-        f.told.read_left ∙ ap (λ a. left_by (λ (b : ℕ). 1) read (outcome a).byte) e ∙ sym g.told.read_left,
-        f.told.byte_left ∙ ap (λ a. left_by (λ (b : ℕ). b) byte (outcome a).byte) e ∙ sym g.told.byte_left,
-        f.told.fresh_left ∙ ap (λ a. left_by flag_byte fresh (outcome a).fresh) e ∙ sym g.told.fresh_left,
-        f.told.number ∙ ap (λ a. (outcome a).number) e ∙ sym g.told.number,
+        f.told.read_left ∙ ap (λ o. left_by (λ (b : ℕ). 1) read o.byte) e ∙ sym g.told.read_left,
+        f.told.byte_left ∙ ap (λ o. left_by (λ (b : ℕ). b) byte o.byte) e ∙ sym g.told.byte_left,
+        f.told.fresh_left ∙ ap (λ o. left_by flag_byte fresh o.fresh) e ∙ sym g.told.fresh_left,
+        f.told.number ∙ ap (λ o. o.number) e ∙ sym g.told.number,
       )
 
   module _ (h : value < 256) {s' m' : List ℕ} {read' byte' fresh' r : ℕ} (f : CycleOut k s m kind value read byte fresh s' m' read' byte' fresh' r) where
     pub cycle_number_lem : r ≡ cond (unfit s) (unfit_number (misfit k.width m)) (cycle_number k (length m) (unpacked s) kind value)
     cycle_number_lem = f.told.number ∙ if_split (unfit s) f.promised
-        (λ t p. ap (λ a. (outcome a).number) p.0 ∙ rw t refl)
+        (λ t p. ap (λ o. o.number) p.0 ∙ rw t refl)
         (λ t p. ap (λ o. o.number) p.tells ∙ number_exactly k (unpacked s) value h m kind ∙ rw t refl)
 
     pub cycle_0 : Exactly (r ≡ 0) ((unfit s ≡ false) × (cycle_number k (length m) (unpacked s) kind value ≡ 0))
@@ -110,13 +111,13 @@ module _ (k : Sheet) (s m : List ℕ) (kind value read byte fresh : ℕ) where
 module _ (k : Sheet) (s m frame : List ℕ) where
   pub frame_one : {l l' : List ℕ} {r r' : ℕ} → FrameOut k s m frame l r → FrameOut k s m frame l' r' → (l ≡ l') × (r ≡ r')
   frame_one f g =
-      let p = if_both (unfit s) f.promised g.promised (λ p q. (p.0 ∙ sym q.0, p.1 ∙ sym q.1)) (λ p q. shown_one p q) in
-      (p.1, f.number ∙ ap (λ a. (told_shown a).number) p.0 ∙ sym g.number)
+      let p = if_both (unfit s) f.promised g.promised (λ p q. (told_one f.answer g.answer (p.0 ∙ sym q.0), p.1 ∙ sym q.1)) (λ p q. shown_one p q) in
+      (p.1, f.number ∙ ap (λ a. (told a).number) p.0 ∙ sym g.number)
 
   module _ {l : List ℕ} {r : ℕ} (f : FrameOut k s m frame l r) where
     pub frame_number : r ≡ cond (unfit s) (unfit_number (misfit k.width m || misfit k.width frame)) (refusal k (unpacked s) (length m) (length frame))
     frame_number = f.number ∙ if_split (unfit s) f.promised
-        (λ t p. ap (λ a. (told_shown a).number) p.0 ∙ rw t refl)
+        (λ t p. ap (λ o. o.number) p.0 ∙ rw t refl)
         (λ t p. ap (λ o. o.number) p.tells ∙ number_number (refusal k (unpacked s) (length m) (length frame)) tt ∙ rw t refl)
 
     pub frame_0 : Exactly (r ≡ 0) ((unfit s ≡ false) × (refusal k (unpacked s) (length m) (length frame) ≡ 0))
@@ -125,12 +126,12 @@ module _ (k : Sheet) (s m frame : List ℕ) where
 module _ (k : Sheet) (s : List ℕ) (answer : ℕ) where
   pub power_state_one : {a b r r' : ℕ} → PowerOut k s answer a r → PowerOut k s answer b r' → (a ≡ b) × (r ≡ r')
   power_state_one f g =
-      answers_one (ap told_power (if_both (unfit s) f.promised g.promised (λ p q. p ∙ sym q) (λ p q. power_one p q))) f.answers g.answers
+      answers_one (ap told (if_both (unfit s) f.promised g.promised (λ p q. p ∙ sym q) (λ p q. power_one p q))) f.answers g.answers
 
   module _ {a r : ℕ} (f : PowerOut k s answer a r) where
     pub power_state_number : r ≡ cond (unfit s) out_of_range (cond (outside k (unpacked s)) out_of_range 0)
     power_state_number = f.answers.number ∙ if_split (unfit s) f.promised
-        (λ t p. ap (λ a. (told_power a).number) p ∙ rw t refl)
+        (λ t p. ap (λ a. (told a).number) p ∙ rw t refl)
         (λ t p. ap (λ o. o.number) p.tells ∙ test_number (outside k (unpacked s)) out_of_range _ ∙ rw t refl)
 
     pub power_state_0 : Exactly (r ≡ 0) (Accepted k s)
@@ -153,7 +154,7 @@ module _ (resistor contrast : ℕ) (x : Fraction) {t : Told Fraction} (e : t ≡
 
 module _ (resistor contrast before : ℕ) where
   pub v0_one : {a b r r' : ℕ} → VoltageOut resistor contrast before a r → VoltageOut resistor contrast before b r' → (a ≡ b) × (r ≡ r')
-  v0_one f g = answers_one (ap told_voltage (voltage_one f.promised g.promised)) f.answers g.answers
+  v0_one f g = answers_one (ap told (voltage_one f.promised g.promised)) f.answers g.answers
 
   module _ {a r : ℕ} (f : VoltageOut resistor contrast before a r) where
     pub v0_number : r ≡ cond (ltb 7 resistor || ltb 63 contrast) out_of_range 0
@@ -163,7 +164,7 @@ module _ (resistor contrast before : ℕ) where
     v0_0 = told_0 resistor contrast (v0_of resistor contrast) f.promised.tells f.answers.number
 
   pub v0_0717_one : {a b r r' : ℕ} → VoltageOut0717 resistor contrast before a r → VoltageOut0717 resistor contrast before b r' → (a ≡ b) × (r ≡ r')
-  v0_0717_one f g = answers_one (ap told_voltage0717 (voltage_0717_one f.promised g.promised)) f.answers g.answers
+  v0_0717_one f g = answers_one (ap told (voltage_0717_one f.promised g.promised)) f.answers g.answers
 
   module _ {a r : ℕ} (f : VoltageOut0717 resistor contrast before a r) where
     pub v0_0717_number : r ≡ cond (ltb 7 resistor || ltb 63 contrast) out_of_range 0
@@ -187,12 +188,12 @@ awaited_by (suc (suc (suc (suc (suc (suc x)))))) n = rw (lt-ltb 5 (suc (suc (suc
 module _ (k : Sheet) (aw byte : ℕ) (before : ℕ × ℕ) where
   pub read_out_one : {a b : ℕ × ℕ} {r r' : ℕ} → ReadOut k aw byte before a r → ReadOut k aw byte before b r' → (a ≡ b) × (r ≡ r')
   read_out_one f g =
-      answers_one (ap told_reading (if_both (ltb 5 aw) f.promised g.promised (λ p q. p ∙ sym q) (λ p q. read_one p q))) f.answers g.answers
+      answers_one (ap told (if_both (ltb 5 aw) f.promised g.promised (λ p q. p ∙ sym q) (λ p q. read_one p q))) f.answers g.answers
 
   module _ (h : byte < 256) {a : ℕ × ℕ} {r : ℕ} (f : ReadOut k aw byte before a r) where
     pub read_number : r ≡ cond (ltb 2 aw) out_of_range (cond (nothing_awaited (awaited_of aw) && not (assigned byte)) 4 0)
     read_number = f.answers.number ∙ if_split (ltb 5 aw) f.promised
-        (λ t p. ap (λ a. (told_reading a).number) p ∙ rw t refl)
+        (λ t p. ap (λ a. (told a).number) p ∙ rw t refl)
         (λ t p. ap (λ x. x.number) p.tells ∙ (number_read byte h k (awaited_of aw)).0 ∙ rw t refl)
         ∙ awaited_by aw _
 
@@ -213,25 +214,25 @@ Unwritable Outside (some i) = Outside i
 Unwritable Outside none = Unit {0}
 
 -- what a writer promises of what is named, for any writer
-module _ {I : Type 0} (Is : I → Writing → Type 0) where
-  pub written_by_one : ((i : I) (a b : Writing) → Is i a → Is i b → a ≡ b) → (x : Option I) (a b : Writing) → WrittenBy Is x a → WrittenBy Is x b → a ≡ b
+module _ {I : Type 0} (Is : I → Result ℕ Refusal → Type 0) where
+  pub written_by_one : ((i : I) (a b : Result ℕ Refusal) → Is i a → Is i b → a ≡ b) → (x : Option I) (a b : Result ℕ Refusal) → WrittenBy Is x a → WrittenBy Is x b → a ≡ b
   written_by_one one (some i) a b p q = one i a b p q
   written_by_one one none a b p q = p ∙ sym q
 
-  module _ (write : I → Told ℕ) (tells : (i : I) (a : Writing) → Is i a → told_writing a ≡ write i) (a : Writing) (r : ℕ) (e : r ≡ (told_writing a).number) where
+  module _ (write : I → Told ℕ) (tells : (i : I) (a : Result ℕ Refusal) → Is i a → told a ≡ write i) (a : Result ℕ Refusal) (r : ℕ) (e : r ≡ (told a).number) where
     pub writable : (x : Option I) → WrittenBy Is x a → Exactly (r ≡ 0) (Writable write x)
     writable (some i) p = same_number (e ∙ ap (λ t. t.number) (tells i a p))
-    writable none p = (λ z. let n : outside_field ≡ 0 = sym (ap (λ a. (told_writing a).number) p) ∙ sym e ∙ z in omega arith, λ z. absurd z)
+    writable none p = (λ z. let n : outside_field ≡ 0 = sym (ap (λ a. (told a).number) p) ∙ sym e ∙ z in omega arith, λ z. absurd z)
 
     pub unwritable : (Outside : I → Type 0) → ((i : I) → Exactly ((write i).number ≡ outside_field) (Outside i)) → (x : Option I) → WrittenBy Is x a
         → Exactly (r ≡ outside_field) (Unwritable Outside x)
     unwritable Outside six (some i) p = then (same_number (e ∙ ap (λ t. t.number) (tells i a p))) (six i)
-    unwritable Outside six none p = (λ z. tt, λ z. e ∙ ap (λ a. (told_writing a).number) p)
+    unwritable Outside six none p = (λ z. tt, λ z. e ∙ ap (λ a. (told a).number) p)
 
 module _ (k : Sheet) (number value byte : ℕ) where
   pub write_out_one : {a b r r' : ℕ} → WriteOut k number value byte a r → WriteOut k number value byte b r' → (a ≡ b) × (r ≡ r')
   write_out_one f g =
-      answers_one (ap told_writing (written_by_one (IsWritten k) (λ i a b p q. written_one p q) (named number value) f.answer g.answer f.promised g.promised))
+      answers_one (ap told (written_by_one (IsWritten k) (λ i a b p q. written_one p q) (named number value) f.answer g.answer f.promised g.promised))
       f.answers g.answers
 
   pub write_0 : {a r : ℕ} → WriteOut k number value byte a r → Exactly (r ≡ 0) (Writable (write_of k) (named number value))
@@ -246,14 +247,14 @@ module _ (k : Sheet) (number value byte : ℕ) where
 
 -- any stream, in both outputs
 abbrev pub SentOut : ℕ → List BusCycle → List ℕ → List ℕ → ℕ → List ℕ → List ℕ → ℕ → ℕ → Type 0
-SentOut number s out kinds bytes out' kinds' bytes' r = Through (λ a. Sent number s out kinds a out' kinds') told_count same bytes bytes' r
+SentOut number s out kinds bytes out' kinds' bytes' r = Through (λ a. Sent number s out kinds a out' kinds') told same bytes bytes' r
 
 module _ (number : ℕ) (s : List BusCycle) (out kinds : List ℕ) (bytes : ℕ) where
   sent_out_one : {o k o' k' : List ℕ} {a b r r' : ℕ} → SentOut number s out kinds bytes o k a r → SentOut number s out kinds bytes o' k' b r'
       → (o ≡ o') × (k ≡ k') × (a ≡ b) × (r ≡ r')
   sent_out_one f g =
       let p = sent_one f.promised g.promised in
-      let q = answers_one (ap told_count p.0) f.answers g.answers in
+      let q = answers_one (ap told p.0) f.answers g.answers in
       (p.1, p.2, q.0, q.1)
 
   sent_out_number : {o k : List ℕ} {a r : ℕ} → SentOut number s out kinds bytes o k a r → r ≡ number
@@ -277,7 +278,7 @@ module _ (W : ℕ) (recorded wanted : List ℕ) where
 
   module _ (bytes : ℕ) where
     pub length_out_one : {a b r r' : ℕ} → LengthOut W recorded wanted bytes a r → LengthOut W recorded wanted bytes b r' → (a ≡ b) × (r ≡ r')
-    length_out_one f g = answers_one (ap told_count (length_one f.promised g.promised)) f.answers g.answers
+    length_out_one f g = answers_one (ap told (length_one f.promised g.promised)) f.answers g.answers
 
     module _ {a r : ℕ} (f : LengthOut W recorded wanted bytes a r) where
       pub length_number : r ≡ cond (misfit W recorded || misfit W wanted) wrong_size 0

@@ -1,24 +1,20 @@
 -- The new command set in C: its instructions by number, what its reader and writer promise, and the switch, for any chip.
 -- Assumes nothing.
-use Rattle.std.specs.Prelude.{ℕ, ◌%◌, ◌≡◌, Bool, cond, ◌||◌, ◌&&◌, List, ltb, eqb}
+use Rattle.std.specs.Prelude.{ℕ, ◌%◌, ◌≡◌, Bool, cond, ◌||◌, ◌&&◌, List, ltb, eqb, Result, Err, Option as Maybe, Some, None}
 use Rattle.std.proofs.Math.Option.{Option, none, some}
-use Rattle.paper.specs.Refusal.{out_of_range}
+use Rattle.paper.specs.Told.{told}
+use Rattle.paper.specs.declared.refusal.Refusal.{Refusal}
+use Rattle.paper.specs.declared.refusal.Refusal.TheVariants.{OutOfRange}
 use Rattle.paper.specs.declared.sheet.Sheet.{Sheet}
 use Rattle.paper.specs.Answers.{Through, If, same}
-use Rattle.instructions.specs.Write.{told_writing}
-use Rattle.instructions.specs.Added.{told_added, IsReadAdded, IsWrittenAdded}
+use Rattle.instructions.specs.Added.{IsReadAdded, IsWrittenAdded}
 use Rattle.instructions.specs.declared.added.Added.{Added}
 use Rattle.instructions.specs.declared.added.Added.TheVariants.{Com0Next, Com0Value, DutyNext, DutyValue, InversionNext, InversionValue, FrameInversion}
-use Rattle.instructions.specs.declared.added.AddedReading.{AddedReading}
-use Rattle.instructions.specs.declared.added.AddedReading.TheVariants as reading
-use Rattle.registers.specs.Switch.{told_switched, IsSwitched}
-use Rattle.registers.specs.declared.switch.Switched.{Switched}
-use Rattle.registers.specs.declared.switch.Switched.TheVariants as switch
+use Rattle.registers.specs.Switch.{IsSwitched}
+use Rattle.registers.specs.declared.Registers.{Registers}
 use Rattle.state.specs.Packed.{awaited_of, set_of, packed, unpacked}
 use Rattle.state.specs.Unfit.{unfit}
 use Rattle.face.specs.Bytes.{WrittenBy}
-use Rattle.face.specs.declared.added.NamedAdded.{NamedAdded}
-use Rattle.face.specs.declared.added.NamedAdded.TheVariants.{Known, Unknown}
 
 -- ---- an instruction's number and value
 
@@ -68,29 +64,29 @@ unfoldable pub named_added : ℕ → ℕ → Option Added
 named_added n v = cond (unnamed_added n v) none (some (by_added_number n v))
 
 -- the code's own option
-abbrev pub told_named_added : NamedAdded → Option Added
-told_named_added (Known i) = some i
-told_named_added Unknown = none
+abbrev pub told_named_added : Maybe Added → Option Added
+told_named_added (Some i) = some i
+told_named_added None = none
 
 -- ---- the promises
 
 -- an awaited byte that is none of the six is refused with 2; one of the old set is by the reader
-abbrev pub ReadAddedOn : ℕ → ℕ → AddedReading → Type 0
-ReadAddedOn awaited byte a = If (ltb 5 awaited) (a ≡ reading.Unread out_of_range) (IsReadAdded (awaited_of awaited) byte a)
+abbrev pub ReadAddedOn : ℕ → ℕ → Result Added Refusal → Type 0
+ReadAddedOn awaited byte a = If (ltb 5 awaited) (a ≡ Err OutOfRange) (IsReadAdded (awaited_of awaited) byte a)
 
 -- a byte read as number and value: refused with 2, 4
 abbrev pub ReadAddedOut : ℕ → ℕ → ℕ × ℕ → ℕ × ℕ → ℕ → Type 0
-ReadAddedOut awaited byte out out' r = Through (ReadAddedOn awaited byte) told_added added_numbered out out' r
+ReadAddedOut awaited byte out out' r = Through (ReadAddedOn awaited byte) told added_numbered out out' r
 
 -- a number and a value written as a byte: refused with 6
 abbrev pub WriteAddedOut : ℕ → ℕ → ℕ → ℕ → ℕ → Type 0
-WriteAddedOut number value byte byte' r = Through (WrittenBy IsWrittenAdded (named_added number value)) told_writing same byte byte' r
+WriteAddedOut number value byte byte' r = Through (WrittenBy IsWrittenAdded (named_added number value)) told same byte byte' r
 
 -- the switch of the registers that the state stands for, to the old set, 0, or the new one, 1; a state that stands for none and a set
 -- above 1 are refused with 2
-abbrev pub SwitchedOn : Sheet → List ℕ → ℕ → Switched → Type 0
-SwitchedOn k state set a = If (unfit state || ltb 1 set) (a ≡ switch.Refused out_of_range) (IsSwitched k (unpacked state) (set_of set) a)
+abbrev pub SwitchedOn : Sheet → List ℕ → ℕ → Result Registers Refusal → Type 0
+SwitchedOn k state set a = If (unfit state || ltb 1 set) (a ≡ Err OutOfRange) (IsSwitched k (unpacked state) (set_of set) a)
 
 -- the state after it: refused with 2, 13
 abbrev pub SwitchOut : Sheet → List ℕ → ℕ → List ℕ → ℕ → Type 0
-SwitchOut k state set state' r = Through (SwitchedOn k state set) told_switched packed state state' r
+SwitchOut k state set state' r = Through (SwitchedOn k state set) told packed state state' r

@@ -1,21 +1,17 @@
 -- The instructions by number, and what reader and writer promise in C, for any chip.
 -- Assumes nothing.
-use Rattle.std.specs.Prelude.{ℕ, ◌≡◌, Bool, cond, ◌||◌, ◌&&◌, ltb, leb, eqb}
+use Rattle.std.specs.Prelude.{ℕ, ◌≡◌, Bool, cond, ◌||◌, ◌&&◌, ltb, leb, eqb, Result, Err, Option as Maybe, Some, None}
 use Rattle.std.proofs.Math.Option.{Option, none, some}
-use Rattle.paper.specs.Refusal.{out_of_range, outside_field}
+use Rattle.paper.specs.Told.{told}
+use Rattle.paper.specs.declared.refusal.Refusal.{Refusal}
+use Rattle.paper.specs.declared.refusal.Refusal.TheVariants.{OutOfRange, OutsideField}
 use Rattle.paper.specs.declared.sheet.Sheet.{Sheet}
 use Rattle.paper.specs.Answers.{Through, If, same}
-use Rattle.instructions.specs.Read.{told_reading, IsRead}
-use Rattle.instructions.specs.Write.{told_writing, IsWritten}
+use Rattle.instructions.specs.Read.{IsRead}
+use Rattle.instructions.specs.Write.{IsWritten}
 use Rattle.instructions.specs.declared.instruction.Instruction.{Instruction}
 use Rattle.instructions.specs.declared.instruction.Instruction.TheVariants.{ColumnLow, ColumnHigh, Resistor, Power, StartLine, ContrastNext, ContrastValue, Adc, Bias, Entire, Reverse, IndicatorOff, IndicatorOn, IndicatorValue, Display, Page, Shl, ModifyReadOn, ModifyReadOff, Reset, Nop}
-use Rattle.instructions.specs.declared.read.Reading.{Reading}
-use Rattle.instructions.specs.declared.read.Reading.TheVariants as reading
-use Rattle.instructions.specs.declared.write.Writing.{Writing}
-use Rattle.instructions.specs.declared.write.Writing.TheVariants as writing
 use Rattle.state.specs.Packed.{flag_byte, awaited_of}
-use Rattle.face.specs.declared.bytes.Named.{Named}
-use Rattle.face.specs.declared.bytes.Named.TheVariants.{Known, Unknown}
 
 -- ---- an instruction's number and value
 
@@ -115,28 +111,28 @@ unfoldable pub named : ℕ → ℕ → Option Instruction
 named n v = cond (unnamed n v) none (some (by_number n v))
 
 -- the code's own option
-abbrev pub told_named : Named → Option Instruction
-told_named (Known i) = some i
-told_named Unknown = none
+abbrev pub told_named : Maybe Instruction → Option Instruction
+told_named (Some i) = some i
+told_named None = none
 
 -- ---- the promises
 
 -- an awaited byte that is none of the six is refused with 2; one of the new set is by the reader
-abbrev pub ReadOn : Sheet → ℕ → ℕ → Reading → Type 0
-ReadOn k awaited byte a = If (ltb 5 awaited) (a ≡ reading.Unread out_of_range) (IsRead k (awaited_of awaited) byte a)
+abbrev pub ReadOn : Sheet → ℕ → ℕ → Result Instruction Refusal → Type 0
+ReadOn k awaited byte a = If (ltb 5 awaited) (a ≡ Err OutOfRange) (IsRead k (awaited_of awaited) byte a)
 
 -- a byte read as number and value: refused with 2, 4
 abbrev pub ReadOut : Sheet → ℕ → ℕ → ℕ × ℕ → ℕ × ℕ → ℕ → Type 0
-ReadOut k awaited byte out out' r = Through (ReadOn k awaited byte) told_reading numbered out out' r
+ReadOut k awaited byte out out' r = Through (ReadOn k awaited byte) told numbered out out' r
 
 -- what is no instruction is refused with 6
-abbrev pub WrittenBy : {I : Type 0} → (I → Writing → Type 0) → Option I → Writing → Type 0
+abbrev pub WrittenBy : {I : Type 0} → (I → Result ℕ Refusal → Type 0) → Option I → Result ℕ Refusal → Type 0
 WrittenBy Is (some i) a = Is i a
-WrittenBy Is none a = a ≡ writing.Unwritten outside_field
+WrittenBy Is none a = a ≡ Err OutsideField
 
-abbrev pub WrittenIf : Sheet → Option Instruction → Writing → Type 0
+abbrev pub WrittenIf : Sheet → Option Instruction → Result ℕ Refusal → Type 0
 WrittenIf k x a = WrittenBy (IsWritten k) x a
 
 -- a number and a value written as a byte: refused with 6
 abbrev pub WriteOut : Sheet → ℕ → ℕ → ℕ → ℕ → ℕ → Type 0
-WriteOut k number value byte byte' r = Through (WrittenIf k (named number value)) told_writing same byte byte' r
+WriteOut k number value byte byte' r = Through (WrittenIf k (named number value)) told same byte byte' r

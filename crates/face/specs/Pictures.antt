@@ -5,7 +5,8 @@ use Rattle.std.proofs.Math.Option.{Option, none, some}
 use Rattle.paper.specs.Answers.{Through, same}
 use Rattle.streams.specs.Stretch.{Place}
 use Rattle.planner.specs.First.{told_found, IsFirst}
-use Rattle.planner.specs.Count.{told_count, IsLength}
+use Rattle.paper.specs.Told.{told}
+use Rattle.planner.specs.Count.{IsLength}
 use Rattle.planner.specs.Sent.{IsUpdate, IsRedraw}
 use Rattle.planner.specs.Group.{IsGroup}
 
@@ -20,19 +21,19 @@ FirstOut W recorded wanted out out' r = Through (IsFirst W recorded wanted) told
 
 -- the update's length: refused with 1
 abbrev pub LengthOut : ℕ → List ℕ → List ℕ → ℕ → ℕ → ℕ → Type 0
-LengthOut W recorded wanted count count' r = Through (IsLength W recorded wanted) told_count same count count' r
+LengthOut W recorded wanted count count' r = Through (IsLength W recorded wanted) told same count count' r
 
 -- the update, in both outputs: refused with 1, 5
 abbrev pub UpdateOut : ℕ → List ℕ → List ℕ → List ℕ → List ℕ → ℕ → List ℕ → List ℕ → ℕ → ℕ → Type 0
 UpdateOut W recorded wanted out kinds count out' kinds' count' r =
-    Through (λ a. IsUpdate W recorded wanted out kinds a out' kinds') told_count same count count' r
+    Through (λ a. IsUpdate W recorded wanted out kinds a out' kinds') told same count count' r
 
 -- one page's group, in both outputs: refused with 1, 6, 5
 abbrev pub GroupOut : ℕ → List ℕ → List ℕ → ℕ → List ℕ → List ℕ → ℕ → List ℕ → List ℕ → ℕ → ℕ → Type 0
 GroupOut W recorded wanted page out kinds count out' kinds' count' r =
-    Through (λ a. IsGroup W recorded wanted page out kinds a out' kinds') told_count same count count' r
+    Through (λ a. IsGroup W recorded wanted page out kinds a out' kinds') told same count count' r
 
 -- the redraw, in both outputs: refused with 1, 6, 5
 abbrev pub RedrawOut : ℕ → List ℕ → ℕ → List ℕ → List ℕ → ℕ → List ℕ → List ℕ → ℕ → ℕ → Type 0
 RedrawOut W wanted contrast out kinds count out' kinds' count' r =
-    Through (λ a. IsRedraw W wanted contrast out kinds a out' kinds') told_count same count count' r
+    Through (λ a. IsRedraw W wanted contrast out kinds a out' kinds') told same count count' r

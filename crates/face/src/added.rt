@@ -1,23 +1,23 @@
-// The instructions of the new command set by number, how one that was read is told, and how a switch is.
+// The instructions of the new command set by number, as `bytes.rt` has the old set's: the tables have nothing in common but their form,
+// which a trait would only say a third time; how one that was read is told, and how a switch is.
 ghost use Rattle.std.specs.Prelude.{◌≡◌};
 ghost use Rattle.paper.specs.Answers.{Answers};
-ghost use Rattle.instructions.specs.Added.{told_added};
-ghost use Rattle.registers.specs.Switch.{told_switched};
+ghost use Rattle.paper.specs.Told.{told};
+ghost use Rattle.instructions.specs.Added.{IsWrittenAdded};
 ghost use Rattle.state.specs.Packed.{packed};
-ghost use Rattle.face.specs.Added.{added_number, added_value, added_numbered, unnamed_added, by_added_number, named_added, told_named_added};
+ghost use Rattle.face.specs.Added.{added_number, added_value, added_numbered, unnamed_added, by_added_number, named_added, told_named_added, ReadAddedOn, SwitchedOn};
+ghost use Rattle.face.specs.Bytes.{WrittenBy};
 
-use instructions::added::{Added, AddedReading};
-use registers::switch::Switched;
+use instructions::added::{Added, CommandSet, read_added, write_added};
+use instructions::instruction::Awaited;
+use paper::refusal::Refusal;
+use paper::sheet::Chip;
+use registers::Registers;
+use registers::switch::switch_set;
 use state::packed::{State, pack};
+use state::unfit::registers_in;
 
-// What a number and a value name.
-#[derive(Clone, Copy)]
-pub enum NamedAdded {
-    Known(Added),
-    Unknown,
-}
-
-// An instruction's number, in order 13's order, each second byte after the byte that announces it.
+// An instruction's number (no `From`, as in `bytes.rt`), in order 13's order, each second byte after the byte that announces it.
 fn number_of(added: Added) -> u8
     ensures { result ≡ added_number added }
 {
@@ -37,13 +37,8 @@ fn value_of(added: Added) -> u8
     ensures { result ≡ added_value added }
 {
     match added {
-        Added::Com0Next => 0,
-        Added::Com0Value(v) => v,
-        Added::DutyNext => 0,
-        Added::DutyValue(v) => v,
-        Added::InversionNext => 0,
-        Added::InversionValue(v) => v,
-        Added::FrameInversion => 0,
+        Added::Com0Value(v) | Added::DutyValue(v) | Added::InversionValue(v) => v,
+        Added::Com0Next | Added::DutyNext | Added::InversionNext | Added::FrameInversion => 0,
     }
 }
 
@@ -71,38 +66,64 @@ fn by_number(number: u8, value: u8) -> Added
 }
 
 // What a number and a value name.
-pub fn named_added(number: u8, value: u8) -> NamedAdded
+#[tactic(auto, unfolding(crate::specs::Added::named_added))]
+pub fn named_added(number: u8, value: u8) -> Option<Added>
     ensures { told_named_added result ≡ named_added number value }
 {
     if names_none(number, value) {
-        return NamedAdded::Unknown;
+        return None;
     }
-    NamedAdded::Known(by_number(number, value))
+    Some(by_number(number, value))
+}
+
+// What a number and a value name, written. Refuses with 6.
+pub fn write_added_by(number: u8, value: u8) -> Result<u8, Refusal>
+    ensures { WrittenBy IsWrittenAdded (named_added number value) result }
+{
+    let added = named_added(number, value).ok_or(Refusal::OutsideField)?;
+    write_added(added)
+}
+
+// One byte read, with what is awaited by its number. Refuses with 2, 4.
+pub fn read_added_by(awaited: u8, byte: u8) -> Result<Added, Refusal>
+    ensures { ReadAddedOn awaited byte result }
+{
+    let awaited = Awaited::try_from(awaited)?;
+    read_added(awaited, byte)
 }
 
 // What was read, by its number and value.
-pub fn tell_added(answer: AddedReading, number: &mut u8, value: &mut u8) -> u8
-    ensures { Answers (told_added answer) added_numbered (number.old, value.old) (number.new, value.new) result }
+pub fn tell_added(answer: Result<Added, Refusal>, number: &mut u8, value: &mut u8) -> u8
+    ensures { Answers (told answer) added_numbered (number.old, value.old) (number.new, value.new) result }
 {
     match answer {
-        AddedReading::ReadAs(added) => {
+        Ok(added) => {
             *number = number_of(added);
             *value = value_of(added);
             0
         }
-        AddedReading::Unread(refusal) => refusal,
+        Err(refusal) => refusal.into(),
     }
 }
 
+// The switch on the registers that the state stands for, to the set of a number. Refuses with 2, 13.
+pub fn switch_on<C: Chip>(state: &State, set: u8) -> Result<Registers, Refusal>
+    ensures { SwitchedOn C.sheet state.now set result }
+{
+    let registers = registers_in(state, false)?;
+    let set = CommandSet::try_from(set)?;
+    switch_set::<C>(registers, set)
+}
+
 // A switch: the state after it.
-pub fn tell_switched(answer: Switched, state: &mut State) -> u8
-    ensures { Answers (told_switched answer) packed state.old state.new result }
+pub fn tell_switched(answer: Result<Registers, Refusal>, state: &mut State) -> u8
+    ensures { Answers (told answer) packed state.old state.new result }
 {
     match answer {
-        Switched::Done(after) => {
+        Ok(after) => {
             *state = pack(after);
             0
         }
-        Switched::Refused(number) => number,
+        Err(refusal) => refusal.into(),
     }
 }

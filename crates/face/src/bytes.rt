@@ -1,23 +1,17 @@
 // The instructions by number, and how a byte that was read or written is told.
 ghost use Rattle.std.specs.Prelude.{◌≡◌};
-ghost use Rattle.paper.specs.Answers.{Answers, same};
-ghost use Rattle.instructions.specs.Read.{told_reading};
-ghost use Rattle.instructions.specs.Write.{told_writing};
-ghost use Rattle.face.specs.Bytes.{number_of, value_of, numbered, unnamed, by_number, named, told_named};
+ghost use Rattle.paper.specs.Answers.{Answers};
+ghost use Rattle.paper.specs.Told.{told};
+ghost use Rattle.face.specs.Bytes.{number_of, value_of, numbered, unnamed, by_number, named, told_named, ReadOn, WrittenIf};
 
-use instructions::instruction::Instruction;
-use instructions::read::Reading;
-use instructions::write::Writing;
+use instructions::instruction::{Awaited, Instruction};
+use instructions::read::read_instruction;
+use instructions::write::write_instruction;
+use paper::refusal::Refusal;
+use paper::sheet::Chip;
 use state::packed::flag_byte;
 
-// What a number and a value name.
-#[derive(Clone, Copy)]
-pub enum Named {
-    Known(Instruction),
-    Unknown,
-}
-
-// An instruction's number, in the order of the table.
+// An instruction's number, in the order of the table. No `From`: C's numbers are this crate's, and the enum is not.
 fn number_of(instruction: Instruction) -> u8
     ensures { result ≡ number_of instruction }
 {
@@ -51,27 +45,27 @@ fn value_of(instruction: Instruction) -> u8
     ensures { result ≡ value_of instruction }
 {
     match instruction {
-        Instruction::ColumnLow(v) => v,
-        Instruction::ColumnHigh(v) => v,
-        Instruction::Resistor(v) => v,
-        Instruction::Power(v) => v,
-        Instruction::StartLine(v) => v,
-        Instruction::ContrastNext => 0,
-        Instruction::ContrastValue(v) => v,
-        Instruction::Adc(f) => flag_byte(f),
-        Instruction::Bias(f) => flag_byte(f),
-        Instruction::Entire(f) => flag_byte(f),
-        Instruction::Reverse(f) => flag_byte(f),
-        Instruction::IndicatorOff => 0,
-        Instruction::IndicatorOn => 0,
-        Instruction::IndicatorValue(v) => v,
-        Instruction::Display(f) => flag_byte(f),
-        Instruction::Page(v) => v,
-        Instruction::Shl(f) => flag_byte(f),
-        Instruction::ModifyReadOn => 0,
-        Instruction::ModifyReadOff => 0,
-        Instruction::Reset => 0,
-        Instruction::Nop => 0,
+        Instruction::ColumnLow(v)
+        | Instruction::ColumnHigh(v)
+        | Instruction::Resistor(v)
+        | Instruction::Power(v)
+        | Instruction::StartLine(v)
+        | Instruction::ContrastValue(v)
+        | Instruction::IndicatorValue(v)
+        | Instruction::Page(v) => v,
+        Instruction::Adc(f)
+        | Instruction::Bias(f)
+        | Instruction::Entire(f)
+        | Instruction::Reverse(f)
+        | Instruction::Display(f)
+        | Instruction::Shl(f) => flag_byte(f),
+        Instruction::ContrastNext
+        | Instruction::IndicatorOff
+        | Instruction::IndicatorOn
+        | Instruction::ModifyReadOn
+        | Instruction::ModifyReadOff
+        | Instruction::Reset
+        | Instruction::Nop => 0,
     }
 }
 
@@ -115,38 +109,42 @@ fn by_number(number: u8, value: u8) -> Instruction
 }
 
 // What a number and a value name.
-pub fn named_by(number: u8, value: u8) -> Named
+#[tactic(auto, unfolding(crate::specs::Bytes::named))]
+pub fn named_by(number: u8, value: u8) -> Option<Instruction>
     ensures { told_named result ≡ named number value }
 {
     if names_none(number, value) {
-        return Named::Unknown;
+        return None;
     }
-    Named::Known(by_number(number, value))
+    Some(by_number(number, value))
+}
+
+// What a number and a value name, written. Refuses with 6.
+pub fn write_by<C: Chip>(number: u8, value: u8) -> Result<u8, Refusal>
+    ensures { WrittenIf C.sheet (named number value) result }
+{
+    let instruction = named_by(number, value).ok_or(Refusal::OutsideField)?;
+    write_instruction::<C>(instruction)
+}
+
+// One byte read, with what is awaited by its number. Refuses with 2, 4.
+pub fn read_by<C: Chip>(awaited: u8, byte: u8) -> Result<Instruction, Refusal>
+    ensures { ReadOn C.sheet awaited byte result }
+{
+    let awaited = Awaited::try_from(awaited)?;
+    read_instruction::<C>(awaited, byte)
 }
 
 // What was read, by its number and value.
-pub fn tell_read(answer: Reading, number: &mut u8, value: &mut u8) -> u8
-    ensures { Answers (told_reading answer) numbered (number.old, value.old) (number.new, value.new) result }
+pub fn tell_read(answer: Result<Instruction, Refusal>, number: &mut u8, value: &mut u8) -> u8
+    ensures { Answers (told answer) numbered (number.old, value.old) (number.new, value.new) result }
 {
     match answer {
-        Reading::ReadAs(instruction) => {
+        Ok(instruction) => {
             *number = number_of(instruction);
             *value = value_of(instruction);
             0
         }
-        Reading::Unread(refusal) => refusal,
-    }
-}
-
-// What was written.
-pub fn tell_written(answer: Writing, byte: &mut u8) -> u8
-    ensures { Answers (told_writing answer) same byte.old byte.new result }
-{
-    match answer {
-        Writing::WrittenAs(written) => {
-            *byte = written;
-            0
-        }
-        Writing::Unwritten(refusal) => refusal,
+        Err(refusal) => refusal.into(),
     }
 }

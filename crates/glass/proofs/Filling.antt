@@ -3,12 +3,10 @@
 use Prim.Native.Nat.{ℕ, ◌+◌, ◌*◌, ◌≤◌, ◌<◌}
 use mathlib.Core.Path.{◌≡◌, sym, ◌∙◌}
 use mathlib.Core.List.{List}
-use native.Mathlib.Nat.{mul-suc, mul-le-mul_left}
-use native.Mathlib.Numerals.{add-one}
+use native.Mathlib.Nat.{mul-le-mul_left}
 use native.Mathlib.Omega.{arith}
 use lib.ListN.{get_or, set, length-set}
 use lib.Seq.{ext_get_or}
-use Rattle.paper.specs.Sheet.{Sensible}
 use Rattle.paper.specs.declared.sheet.Sheet.{Sheet}
 use Rattle.paper.proofs.Listed.{more}
 use Rattle.registers.specs.declared.Registers.{Registers}
@@ -16,10 +14,6 @@ use Rattle.controller.proofs.Cells.{place}
 use Rattle.glass.specs.Frame.{strip_byte, frame_of}
 use Rattle.glass.specs.Filling.{DrawnTo}
 use Rattle.glass.proofs.Readers.{strip_at, frame_length}
-
--- a byte's place is one of the frame's, and all of them are small numbers
-pub byte_place : {c : Sheet} {t s : ℕ} → Sensible c → t < 9 → s < c.width → (c.width * t + s < 9 * c.width) × (c.width < 256)
-byte_place {c} {t} {s} h ht hs = (place c.width t s ht hs, omega (arith, h.wide, h.byte))
 
 module _ (c : Sheet) (r : Registers) (m : List ℕ) where
   -- one segment more
@@ -29,10 +23,6 @@ module _ (c : Sheet) (r : Registers) (m : List ℕ) where
       let i = c.width * t + s in
       let more_here = more (λ (k : ℕ). get_or (frame_of c r m) k 0) out i v (omega (arith, place c.width t s ht hs, d.0)) (e ∙ sym (strip_at c r m t s ht hs)) d.1 in
       (length-set out i v ∙ d.0, λ k h. more_here k (omega arith))
-
-  -- the strip is drawn
-  pub drawn_strip : (t s : ℕ) (out : List ℕ) → c.width ≤ s → DrawnTo c r m (c.width * t + s) out → DrawnTo c r m (c.width * (t + 1)) out
-  drawn_strip t s out le d = (d.0, λ k h. d.1 k (omega (arith, simp (add-one, mul-suc) at h)))
 
   -- all of them are
   pub drawn_whole : (t : ℕ) (out : List ℕ) → 9 ≤ t → DrawnTo c r m (c.width * t) out → out ≡ frame_of c r m

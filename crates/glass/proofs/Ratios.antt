@@ -1,6 +1,7 @@
--- The tables of ratios, each computed over once: no ratio is above its table's last. So V0's numerators fit.
+-- The tables of ratios, each computed over once: no ratio is above its table's last. And where nothing is refused resistor and
+-- contrast are inside their ranges, so that V0's numerators fit.
 -- Assumes nothing.
-use Prim.Native.Nat.{ℕ, ◌*◌, ◌≤◌, ◌<◌}
+use Prim.Native.Nat.{ℕ, ◌+◌, ◌*◌, ◌≤◌, ◌<◌}
 use mathlib.Core.Path.{◌≡◌}
 use mathlib.Core.Bool.{Bool, false, ◌||◌}
 use mathlib.Core.List.{List}
@@ -12,6 +13,7 @@ use borrow.Author.Tests.{ltb-false}
 use Rattle.paper.proofs.Every.{every, at}
 use Rattle.paper.proofs.Either.{neither}
 use Rattle.glass.specs.Voltage.{ratios, ratios0717}
+use Rattle.glass.specs.Supply.{Small}
 
 few : List ℕ → ℕ → ℕ → Bool
 few table most k = leb (get_or table k 0) most
@@ -35,9 +37,16 @@ inside k c e =
     let p = neither (ltb 7 k) (ltb 63 c) e in
     (ltb-false 7 k p.0, ltb-false 63 c p.1)
 
--- a ratio times a number of ten bits fits 32 bits, and that times one more
-pub fits : {a b : ℕ} → a ≤ 648 → b ≤ 1023 → a * b < 4294967296
-fits h k = omega (arith, mul-le-mul h k)
+module _ {table : List ℕ} {base factor : ℕ} (s : Small table base factor) {k c : ℕ} (h : (k ≤ 7) × (c ≤ 63)) where
+  table_most : get_or table k 0 ≤ 1000
+  table_most = leb→le _ _ (at (λ n. leb (get_or table n 0) 1000) 8 s.ratios k (omega (arith, h.0)))
 
-pub fits_twice : {a b c : ℕ} → a ≤ 648 → b ≤ 1023 → c ≤ 1023 → a * b * c < 4294967296
-fits_twice h k l = omega (arith, mul-le-mul (mul-le-mul h k) l)
+  base_most : base + c ≤ 963
+  base_most = omega (arith, s.bases, h.1)
+
+  -- a ratio times the contrast, and that times the factor
+  pub fits : get_or table k 0 * (base + c) < 4294967296
+  fits = omega (arith, mul-le-mul table_most base_most)
+
+  pub fits_twice : get_or table k 0 * (base + c) * factor < 4294967296
+  fits_twice = omega (arith, mul-le-mul (mul-le-mul table_most base_most) s.factors)

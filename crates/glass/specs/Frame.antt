@@ -1,16 +1,15 @@
 -- The lit frame: a picture's layout, with segments for columns and rows for lines.
 -- Assumes nothing.
-use Rattle.std.specs.Prelude.{ℕ, ◌+◌, ◌*◌, ◌/◌, ◌%◌, ◌≡◌, cond, not, ◌||◌, List, length, eqb}
+use Rattle.std.specs.Prelude.{ℕ, ◌+◌, ◌*◌, ◌/◌, ◌%◌, ◌≡◌, cond, not, ◌||◌, List, length, eqb, Result}
 use Rattle.paper.specs.Refusal.{wrong_size, out_of_range}
-use Rattle.paper.specs.Told.{Told, given, refused}
+use Rattle.paper.specs.Told.{given, refused, told}
 use Rattle.paper.specs.Listed.{listed}
+use Rattle.paper.specs.declared.refusal.Refusal.{Refusal}
 use Rattle.paper.specs.declared.sheet.Sheet.{Sheet}
 use Rattle.registers.specs.Registers.{outside}
 use Rattle.registers.specs.declared.Registers.{Registers}
 use Rattle.glass.specs.Bit.{sum_of}
 use Rattle.glass.specs.Dot.{lit_of}
-use Rattle.glass.specs.declared.frame.Shown.{Shown}
-use Rattle.glass.specs.declared.frame.Shown.TheVariants.{Drawn, Refused}
 
 -- strip t under segment s: bit b is row 8t + b. Strip 8 has the icon row in bit 0, and its bits 1 to 7 are 0
 unfoldable pub strip_byte : Sheet → Registers → List ℕ → ℕ → ℕ → ℕ
@@ -25,12 +24,7 @@ unfoldable pub refusal : Sheet → Registers → ℕ → ℕ → ℕ
 refusal c r memory frame =
     cond (not (eqb memory (9 * c.width)) || not (eqb frame (9 * c.width))) wrong_size (cond (outside c r) out_of_range 0)
 
--- an answer as the paper tells it: drawn, or the number
-abbrev pub told_shown : Shown → Told (Unit {0})
-told_shown Drawn = given tt
-told_shown (Refused n) = refused n
-
 -- what frame promises: its answer, and the frame that it leaves; a refusal leaves it
-pub record IsShown (c : Sheet) (r : Registers) (m frame : List ℕ) (a : Shown) (left : List ℕ) : Type 0 where
-  pub tells : told_shown a ≡ cond (eqb (refusal c r (length m) (length frame)) 0) (given tt) (refused (refusal c r (length m) (length frame)))
+pub record IsShown (c : Sheet) (r : Registers) (m frame : List ℕ) (a : Result (Unit {0}) Refusal) (left : List ℕ) : Type 0 where
+  pub tells : told a ≡ cond (eqb (refusal c r (length m) (length frame)) 0) (given tt) (refused (refusal c r (length m) (length frame)))
   pub leaves : left ≡ cond (eqb (refusal c r (length m) (length frame)) 0) (frame_of c r m) frame

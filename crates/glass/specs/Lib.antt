@@ -4,3 +4,4 @@ pub mod Frame
 pub mod Filling
 pub mod Power
 pub mod Voltage
+pub mod Supply

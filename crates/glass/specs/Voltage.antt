@@ -1,23 +1,23 @@
 -- V0: millivolts as an exact fraction, a numerator over 15 for the KS0713 and over 27 for the KS0717.
 -- Assumes nothing.
-use Rattle.std.specs.Prelude.{ℕ, ◌+◌, ◌*◌, ◌≡◌, cond, ◌||◌, List, [], ◌∷◌, get_or, ltb}
+use Rattle.std.specs.Prelude.{ℕ, ◌+◌, ◌*◌, ◌≡◌, cond, ◌||◌, List, [], ◌∷◌, get_or, ltb, Result}
 use Rattle.paper.specs.Refusal.{out_of_range}
-use Rattle.paper.specs.Told.{Told, given, refused}
-use Rattle.glass.specs.declared.voltage.Voltage.{Voltage}
-use Rattle.glass.specs.declared.voltage.Voltage.TheVariants.{Fifteenths, Refused}
-use Rattle.glass.specs.declared.voltage.Voltage0717.{Voltage0717}
-use Rattle.glass.specs.declared.voltage.Voltage0717.TheVariants as v0717
+use Rattle.paper.specs.Told.{given, refused, told}
+use Rattle.paper.specs.declared.refusal.Refusal.{Refusal}
+pub use Rattle.glass.specs.declared.voltage.Fraction.{Fraction}
+
+abbrev pub fraction : ℕ → ℕ → Fraction
+fraction n d = record { numerator = n; denominator = d }
+
+-- what v0 promises of a chip whose V0 is v: the fraction; 2 where resistor or contrast is outside its range
+pub record IsV0 (v : ℕ → ℕ → Fraction) (resistor contrast : ℕ) (a : Result Fraction Refusal) : Type 0 where
+  pub tells : told a ≡ cond (ltb 7 resistor || ltb 63 contrast) (refused out_of_range) (given (v resistor contrast))
+
+-- ---- the KS0713
 
 -- 1 + Rb/Ra in hundredths by resistor, from 002
 abbrev pub ratios : List ℕ
 ratios = 190 ∷ 219 ∷ 255 ∷ 302 ∷ 361 ∷ 435 ∷ 529 ∷ 648 ∷ []
-
-pub record Fraction : Type 0 where
-  pub numerator : ℕ
-  pub denominator : ℕ
-
-abbrev pub fraction : ℕ → ℕ → Fraction
-fraction n d = record { numerator = n; denominator = d }
 
 -- V0 in millivolts is ratio · (237 + contrast) / 15
 unfoldable pub numerator : ℕ → ℕ → ℕ
@@ -29,14 +29,9 @@ denominator = 15
 abbrev pub v0_of : ℕ → ℕ → Fraction
 v0_of resistor contrast = fraction (numerator resistor contrast) denominator
 
--- an answer as the paper tells it: so many fifteenths
-abbrev pub told_voltage : Voltage → Told Fraction
-told_voltage (Fifteenths n) = given (fraction n 15)
-told_voltage (Refused n) = refused n
-
 -- what v0 promises: the fraction; 2 where resistor or contrast is outside its range
-pub record IsVoltage (resistor contrast : ℕ) (a : Voltage) : Type 0 where
-  pub tells : told_voltage a ≡ cond (ltb 7 resistor || ltb 63 contrast) (refused out_of_range) (given (v0_of resistor contrast))
+abbrev pub IsVoltage : ℕ → ℕ → Result Fraction Refusal → Type 0
+IsVoltage = IsV0 v0_of
 
 -- ---- the KS0717
 
@@ -54,11 +49,6 @@ denominator0717 = 27
 abbrev pub v0_of0717 : ℕ → ℕ → Fraction
 v0_of0717 resistor contrast = fraction (numerator0717 resistor contrast) denominator0717
 
--- an answer as the paper tells it: so many twenty-sevenths
-abbrev pub told_voltage0717 : Voltage0717 → Told Fraction
-told_voltage0717 (v0717.TwentySevenths n) = given (fraction n 27)
-told_voltage0717 (v0717.Refused n) = refused n
-
--- what v0_ks0717 promises: the fraction; 2 where resistor or contrast is outside its range
-pub record IsVoltage0717 (resistor contrast : ℕ) (a : Voltage0717) : Type 0 where
-  pub tells : told_voltage0717 a ≡ cond (ltb 7 resistor || ltb 63 contrast) (refused out_of_range) (given (v0_of0717 resistor contrast))
+-- what v0 of the KS0717 promises: the fraction; 2 where resistor or contrast is outside its range
+abbrev pub IsVoltage0717 : ℕ → ℕ → Result Fraction Refusal → Type 0
+IsVoltage0717 = IsV0 v0_of0717

@@ -11,6 +11,7 @@ pub(crate) fn weight(on: bool, b: usize) -> u8
 }
 
 // Bit b of a byte, which has none from 8 on.
+#[tactic(auto, using(crate::proofs::Bits::no_bit), unfolding(crate::specs::Bit::bit_of))]
 pub fn bit_of(byte: u8, b: usize) -> bool
     ensures { result ≡ bit_of byte b }
 {

@@ -6,10 +6,7 @@ use std::env::{Env, FillError};
 // Whether there is an argument of this number. Argument 0 is the program's name.
 fn is_there(rt: &impl Env, i: usize) -> bool {
     let mut none: [u8; 0] = [];
-    match rt.arg(i, &mut none) {
-        Err(FillError::NotPresent) => false,
-        _ => true,
-    }
+    !matches!(rt.arg(i, &mut none), Err(FillError::NotPresent))
 }
 
 // How many arguments there are, the program's name among them.
@@ -26,8 +23,5 @@ pub fn argument_count(rt: &impl Env) -> usize {
 pub fn argument_bytes(rt: &impl Env, i: usize, room: &mut [u8]) -> usize
     ensures { result ≤ length room.new }
 {
-    match rt.arg(i, room) {
-        Ok(n) => n,
-        Err(_) => 0,
-    }
+    rt.arg(i, room).unwrap_or(0)
 }

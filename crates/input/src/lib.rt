@@ -3,75 +3,55 @@
 
 pub mod arguments;
 
-ghost use Rattle.std.specs.Prelude.{◌≡◌, ◌+◌, ◌≤◌, length};
+ghost use Rattle.std.specs.Prelude.{◌≡◌, ◌≤◌, length, IfOk};
 
 use std::io;
 use std::io::Read;
 
-// How many bytes came, and whether a read failed.
-#[derive(Clone, Copy)]
-pub struct Input {
-    pub count: usize,
-    pub failed: bool,
+// Room for so many bytes: the programs use no heap, as the library does, so that no input makes one fail for memory. It stands in a function of its own, so that its bytes are not computed where it is used.
+pub fn room<const N: usize>() -> [u8; N]
+    ensures { N ≡ length result }
+{
+    [0; N]
 }
 
-// Room for 65,536 bytes of input. It stands in a function of its own, so that its bytes are not computed where it is used.
+// Room for 65,536 bytes of input.
 pub fn large_buffer() -> [u8; 65536]
     ensures { 65536 ≡ length result }
 {
-    [0; 65536]
+    room()
 }
 
-// One read into the buffer, from a place on.
-fn read_some(reader: &mut impl Read, buffer: &mut [u8], from: usize) -> Input
-    requires { from ≤ length buffer.old }
-    ensures { from + result.count ≤ length buffer.new }
-{
-    match reader.read(&mut buffer[from..]) {
-        Ok(count) => Input {
-            count,
-            failed: false,
-        },
-        Err(_) => Input {
-            count: 0,
-            failed: true,
-        },
-    }
-}
-
-// Reads standard input to its end, or until the buffer is full.
-pub fn read_all(rt: &impl io::Input, buffer: &mut [u8]) -> Input
-    ensures { result.count ≤ length buffer.new }
+// Reads standard input to its end, or until the buffer is full: how many bytes came.
+pub fn read_all(rt: &impl io::Input, buffer: &mut [u8]) -> io::Result<usize>
+    ensures { IfOk result (λ n. n ≤ length buffer.new) }
 {
     let mut reader = rt.reader();
     let mut n = 0;
+    // A read may bring many bytes, so the place moves on by what came and not by one.
     while n < buffer.len() {
-        let input = read_some(&mut reader, buffer, n);
-        if input.failed {
-            return input;
-        }
-        if input.count == 0 {
+        let count = reader.read(&mut buffer[n..])?;
+        if count == 0 {
             break;
         }
-        n += input.count;
+        n += count;
     }
-    Input {
-        count: n,
-        failed: false,
-    }
+    Ok(n)
 }
 
-// Reads until the buffer is full, the input ends or a read fails: how many bytes were read.
+// Reads until the buffer is full, the input ends or a read fails: how many bytes were read. Not by the loop above: what came before a
+// failed read counts here.
 pub fn read_full(reader: &mut impl Read, buffer: &mut [u8]) -> usize
     ensures { result ≤ length buffer.new }
 {
     let mut n = 0;
+    // A read may bring many bytes, so the place moves on by what came and not by one.
     while n < buffer.len() {
-        let input = read_some(reader, buffer, n);
-        if input.count == 0 {
+        let count = reader.read(&mut buffer[n..]).unwrap_or(0);
+        if count == 0 {
             break;
         }
-        n += input.count;
+        n += count;
     }
     n
 }

@@ -13,7 +13,7 @@ use Rattle.paper.specs.Sheet.{Sensible, sheet0713, sheet0717}
 use Rattle.paper.specs.declared.sheet.Sheet.{Sheet}
 use Rattle.paper.proofs.Every.{every, at, left, right}
 use Rattle.paper.proofs.Exactly.{Exactly}
-use Rattle.paper.proofs.Sensible.{sensible0713, sensible0717}
+use Rattle.paper.specs.Sheet.{sensible0713, sensible0717}
 use Rattle.paper.proofs.Telling.{told_is}
 use Rattle.instructions.specs.Write.{field_of, flag_of, write_of}
 use Rattle.instructions.specs.Read.{class_of, room_in, read_by, read_first, read_of, assigned, plain, again, nothing_awaited, awaited_for}

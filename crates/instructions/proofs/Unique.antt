@@ -9,68 +9,50 @@ use mathlib.Core.Option.{Option, none, some}
 use native.Mathlib.Omega.{arith}
 use lib.Dec.{T, eqb, eqb→eq}
 use borrow.Author.Tests.{eqb-true, eq-eqb, not-false}
-use Rattle.paper.specs.Refusal.{out_of_range, unassigned, outside_field}
-use Rattle.paper.specs.Told.{Told, given, refused}
+use Rattle.std.specs.Prelude.{Result, Err}
+use Rattle.paper.specs.Refusal.{out_of_range, unassigned, outside_field, number_of}
+use Rattle.paper.specs.Told.{Told, given, refused, told}
+use Rattle.paper.specs.declared.refusal.Refusal.{Refusal}
+use Rattle.paper.specs.declared.refusal.Refusal.TheVariants.{OutOfRange, Unassigned, OutsideField as OutOfField}
 use Rattle.paper.specs.Sheet.{Sensible}
 use Rattle.paper.specs.declared.sheet.Sheet.{Sheet}
 use Rattle.paper.proofs.Cases.{less}
 use Rattle.paper.proofs.Exactly.{Exactly, then, both, same_number, here, past, nowhere}
 use Rattle.paper.proofs.Every.{every, at, left, right}
-use Rattle.paper.proofs.Telling.{apart, answer_of, refused_one, not_given}
-use Rattle.instructions.specs.Write.{field_of, flag_of, write_of, OutsideField, told_writing, IsWritten}
-use Rattle.instructions.specs.Read.{class_of, read_by, read_first, read_of, told_reading, assigned, nothing_awaited, IsRead}
-use Rattle.instructions.specs.Added.{of_other, added_first, read_added, assigned_added, write_added, OutsideAdded, told_added, IsReadAdded, IsWrittenAdded}
+use Rattle.paper.proofs.Telling.{told_one, number_one, number_some, refused_one, not_given}
+use Rattle.paper.proofs.Refusing.{err_exactly}
+use Rattle.instructions.specs.Write.{field_of, flag_of, write_of, OutsideField, IsWritten}
+use Rattle.instructions.specs.Read.{class_of, read_by, read_first, read_of, assigned, nothing_awaited, IsRead}
+use Rattle.instructions.specs.Added.{of_other, added_first, read_added, assigned_added, write_added, OutsideAdded, IsReadAdded, IsWrittenAdded}
 use Rattle.instructions.specs.Class.{IsClass}
 use Rattle.instructions.specs.declared.instruction.Awaited.{Awaited}
 use Rattle.instructions.specs.declared.instruction.Awaited.TheVariants as awaited
 use Rattle.instructions.specs.declared.added.CommandSet.TheVariants.{Old, New}
 use Rattle.instructions.specs.declared.added.Added.{Added}
 use Rattle.instructions.specs.declared.added.Added.TheVariants.{Com0Next, Com0Value, DutyNext, DutyValue, InversionNext, InversionValue, FrameInversion}
-use Rattle.instructions.specs.declared.added.AddedReading.{AddedReading}
-use Rattle.instructions.specs.declared.added.AddedReading.TheVariants as added
 use Rattle.instructions.specs.declared.instruction.Instruction.{Instruction}
 use Rattle.instructions.specs.declared.instruction.Instruction.TheVariants.{ColumnLow, ColumnHigh, Resistor, Power, StartLine, ContrastNext, ContrastValue, Adc, Bias, Entire, Reverse, IndicatorOff, IndicatorOn, IndicatorValue, Display, Page, Shl, ModifyReadOn, ModifyReadOff, Reset, Nop}
-use Rattle.instructions.specs.declared.read.Reading.{Reading}
-use Rattle.instructions.specs.declared.read.Reading.TheVariants.{ReadAs, Unread}
-use Rattle.instructions.specs.declared.write.Writing.{Writing}
-use Rattle.instructions.specs.declared.write.Writing.TheVariants.{WrittenAs, Unwritten}
 use Rattle.instructions.proofs.Fields.{field_given, field_refused}
 use Rattle.instructions.proofs.Fits.{Proper, read_proper, added_proper}
 
 -- ---- the reader
 
-reading_back : (r : Reading) → answer_of ReadAs Unread (told_reading r) ≡ r
-reading_back (ReadAs i) = refl
-reading_back (Unread n) = refl
-
 -- two readings that the promise admits are equal
-pub read_one : {k : Sheet} {a : Awaited} {b : ℕ} {r s : Reading} → IsRead k a b r → IsRead k a b s → r ≡ s
-read_one {r = r} {s = s} f g = apart told_reading (answer_of ReadAs Unread) reading_back r s (f.tells ∙ sym g.tells)
+pub read_one : {k : Sheet} {a : Awaited} {b : ℕ} {r s : Result Instruction Refusal} → IsRead k a b r → IsRead k a b s → r ≡ s
+read_one {r = r} {s = s} f g = told_one r s (f.tells ∙ sym g.tells)
 
 -- and so with the new set's
-added_back : (r : AddedReading) → answer_of added.ReadAs added.Unread (told_added r) ≡ r
-added_back (added.ReadAs i) = refl
-added_back (added.Unread n) = refl
-
-pub read_added_one : {a : Awaited} {b : ℕ} {r s : AddedReading} → IsReadAdded a b r → IsReadAdded a b s → r ≡ s
-read_added_one {r = r} {s = s} f g = apart told_added (answer_of added.ReadAs added.Unread) added_back r s (f.tells ∙ sym g.tells)
+pub read_added_one : {a : Awaited} {b : ℕ} {r s : Result Added Refusal} → IsReadAdded a b r → IsReadAdded a b s → r ≡ s
+read_added_one {r = r} {s = s} f g = told_one r s (f.tells ∙ sym g.tells)
 
 -- ---- the writer
 
-writing_back : (w : Writing) → answer_of WrittenAs Unwritten (told_writing w) ≡ w
-writing_back (WrittenAs b) = refl
-writing_back (Unwritten n) = refl
-
--- answers that are told alike are equal
-written_told : (w v : Writing) → told_writing w ≡ told_writing v → w ≡ v
-written_told = apart told_writing (answer_of WrittenAs Unwritten) writing_back
-
 -- two writings that the promise admits are equal
-pub written_one : {k : Sheet} {i : Instruction} {w v : Writing} → IsWritten k i w → IsWritten k i v → w ≡ v
-written_one {w = w} {v = v} f g = written_told w v (f.tells ∙ sym g.tells)
+pub written_one : {k : Sheet} {i : Instruction} {w v : Result ℕ Refusal} → IsWritten k i w → IsWritten k i v → w ≡ v
+written_one {w = w} {v = v} f g = told_one w v (f.tells ∙ sym g.tells)
 
-pub written_added_one : {i : Added} {w v : Writing} → IsWrittenAdded i w → IsWrittenAdded i v → w ≡ v
-written_added_one {w = w} {v = v} f g = written_told w v (f.tells ∙ sym g.tells)
+pub written_added_one : {i : Added} {w v : Result ℕ Refusal} → IsWrittenAdded i w → IsWrittenAdded i v → w ≡ v
+written_added_one {w = w} {v = v} f g = told_one w v (f.tells ∙ sym g.tells)
 
 -- ---- the class
 
@@ -136,15 +118,6 @@ module _ (b : ℕ) (h : b < 256) where
   number_added awaited.Duty = (refl, refl)
   number_added awaited.Inversion = (refl, refl)
 
--- an answer is refused with a number exactly if it has that number
-reading_number : (r : Reading) (n : ℕ) → n ≢ 0 → Exactly (r ≡ Unread n) ((told_reading r).number ≡ n)
-reading_number (ReadAs i) n h = (λ e. ap (λ r. (told_reading r).number) e, λ e. absurd (h (sym e)))
-reading_number (Unread m) n h = (λ e. ap (λ r. (told_reading r).number) e, λ e. ap Unread e)
-
-added_number_lem : (r : AddedReading) (n : ℕ) → n ≢ 0 → Exactly (r ≡ added.Unread n) ((told_added r).number ≡ n)
-added_number_lem (added.ReadAs i) n h = (λ e. ap (λ r. (told_added r).number) e, λ e. absurd (h (sym e)))
-added_number_lem (added.Unread m) n h = (λ e. ap (λ r. (told_added r).number) e, λ e. ap added.Unread e)
-
 -- whatever holds exactly at such a number, 2 or 4, holds exactly when that number is given
 module _ {Refused : Type 0} {n : ℕ} (other nothing known : Bool) (is : n ≡ number_by other nothing known) where
   at_2 : Exactly Refused (n ≡ out_of_range) → Exactly Refused (other ≡ true)
@@ -158,38 +131,41 @@ module _ {Refused : Type 0} {n : ℕ} (other nothing known : Bool) (is : n ≡ n
 
 -- the reader's, and the new set's
 module _ (a : Awaited) (b : ℕ) (h : b < 256) where
-  module _ {k : Sheet} {r : Reading} (f : IsRead k a b r) where
-    read_is : (told_reading r).number ≡ number_by (of_other Old a) (nothing_awaited a) (assigned b)
+  module _ {k : Sheet} {r : Result Instruction Refusal} (f : IsRead k a b r) where
+    read_is : (told r).number ≡ number_by (of_other Old a) (nothing_awaited a) (assigned b)
     read_is = ap (λ t. t.number) f.tells ∙ (number_read b h k a).0
 
-    pub unread_2 : Exactly (r ≡ Unread out_of_range) (of_other Old a ≡ true)
-    unread_2 = at_2 (of_other Old a) (nothing_awaited a) (assigned b) read_is (reading_number r out_of_range (λ e. omega arith))
+    pub unread_2 : Exactly (r ≡ Err OutOfRange) (of_other Old a ≡ true)
+    unread_2 = at_2 (of_other Old a) (nothing_awaited a) (assigned b) read_is (err_exactly r OutOfRange)
 
-    pub unread_4 : Exactly (r ≡ Unread unassigned) ((of_other Old a ≡ false) × ((nothing_awaited a && not (assigned b)) ≡ true))
-    unread_4 = at_4 (of_other Old a) (nothing_awaited a) (assigned b) read_is (reading_number r unassigned (λ e. omega arith))
+    pub unread_4 : Exactly (r ≡ Err Unassigned) ((of_other Old a ≡ false) × ((nothing_awaited a && not (assigned b)) ≡ true))
+    unread_4 = at_4 (of_other Old a) (nothing_awaited a) (assigned b) read_is (err_exactly r Unassigned)
 
-  module _ {r : AddedReading} (f : IsReadAdded a b r) where
-    added_is : (told_added r).number ≡ number_by (of_other New a) (nothing_awaited a) (assigned_added b)
+  module _ {r : Result Added Refusal} (f : IsReadAdded a b r) where
+    added_is : (told r).number ≡ number_by (of_other New a) (nothing_awaited a) (assigned_added b)
     added_is = ap (λ t. t.number) f.tells ∙ (number_added b h a).0
 
-    pub unread_added_2 : Exactly (r ≡ added.Unread out_of_range) (of_other New a ≡ true)
-    unread_added_2 = at_2 (of_other New a) (nothing_awaited a) (assigned_added b) added_is (added_number_lem r out_of_range (λ e. omega arith))
+    pub unread_added_2 : Exactly (r ≡ Err OutOfRange) (of_other New a ≡ true)
+    unread_added_2 = at_2 (of_other New a) (nothing_awaited a) (assigned_added b) added_is (err_exactly r OutOfRange)
 
-    pub unread_added_4 : Exactly (r ≡ added.Unread unassigned) ((of_other New a ≡ false) × ((nothing_awaited a && not (assigned_added b)) ≡ true))
-    unread_added_4 = at_4 (of_other New a) (nothing_awaited a) (assigned_added b) added_is (added_number_lem r unassigned (λ e. omega arith))
+    pub unread_added_4 : Exactly (r ≡ Err Unassigned) ((of_other New a ≡ false) × ((nothing_awaited a && not (assigned_added b)) ≡ true))
+    unread_added_4 = at_4 (of_other New a) (nothing_awaited a) (assigned_added b) added_is (err_exactly r Unassigned)
 
 -- no number but 2 and 4
-pub unread_only : {k : Sheet} {a : Awaited} {b n : ℕ} → Sensible k → IsRead k a b (Unread n) → (n ≡ unassigned) ⊎ (n ≡ out_of_range)
-unread_only {k} {a} {b} g f = subst (λ t. Proper (write_of k) t.number t.value) (sym f.tells) (read_proper k g a b)
+by_number : (e : Refusal) → (number_of e ≡ unassigned) ⊎ (number_of e ≡ out_of_range) → (e ≡ Unassigned) ⊎ (e ≡ OutOfRange)
+by_number e h = ⊎_elim (λ f. inl (number_one e Unassigned f)) (λ f. inr (number_one e OutOfRange f)) h
 
-pub unread_added_only : {a : Awaited} {b n : ℕ} → IsReadAdded a b (added.Unread n) → (n ≡ unassigned) ⊎ (n ≡ out_of_range)
-unread_added_only {a} {b} f = subst (λ t. Proper write_added t.number t.value) (sym f.tells) (added_proper a b)
+pub unread_only : {k : Sheet} {a : Awaited} {b : ℕ} {e : Refusal} → Sensible k → IsRead k a b (Err e) → (e ≡ Unassigned) ⊎ (e ≡ OutOfRange)
+unread_only {k} {a} {b} {e} g f = by_number e (subst (λ t. Proper (write_of k) t.number t.value) (sym f.tells) (read_proper k g a b))
 
-pub unread_not_0 : {k : Sheet} {a : Awaited} {b n : ℕ} → Sensible k → IsRead k a b (Unread n) → n ≢ 0
-unread_not_0 g f z = ⊎_elim (λ e. omega arith) (λ e. omega arith) (unread_only g f)
+pub unread_added_only : {a : Awaited} {b : ℕ} {e : Refusal} → IsReadAdded a b (Err e) → (e ≡ Unassigned) ⊎ (e ≡ OutOfRange)
+unread_added_only {a} {b} {e} f = by_number e (subst (λ t. Proper write_added t.number t.value) (sym f.tells) (added_proper a b))
 
-pub unread_added_not_0 : {a : Awaited} {b n : ℕ} → IsReadAdded a b (added.Unread n) → n ≢ 0
-unread_added_not_0 f z = ⊎_elim (λ e. omega arith) (λ e. omega arith) (unread_added_only f)
+pub unread_not_0 : {k : Sheet} {a : Awaited} {b : ℕ} {e : Refusal} → Sensible k → IsRead k a b (Err e) → number_of e ≢ 0
+unread_not_0 {e = e} g f = number_some e
+
+pub unread_added_not_0 : {a : Awaited} {b : ℕ} {e : Refusal} → IsReadAdded a b (Err e) → number_of e ≢ 0
+unread_added_not_0 {e = e} f = number_some e
 
 -- ---- number 6: a value to write outside its field, and only then
 
@@ -266,34 +242,34 @@ module _ {Outside : Type 0} {t : Told ℕ} where
   only_6 (inr g) e = absurd (not_given (e ∙ g.is))
 
   -- and so it is with an answer of a writer
-  answer_6 : Six Outside t → {a : Writing} → told_writing a ≡ t → Exactly (a ≡ Unwritten outside_field) Outside
-  answer_6 s {a} f = then (λ e. sym f ∙ ap told_writing e, λ e. written_told a (Unwritten outside_field) (f ∙ e)) (is_6 s)
+  answer_6 : Six Outside t → {a : Result ℕ Refusal} → told a ≡ t → Exactly (a ≡ Err OutOfField) Outside
+  answer_6 s {a} f = then (λ e. sym f ∙ ap told e, λ e. told_one a (Err OutOfField) (f ∙ e)) (is_6 s)
 
 module _ (k : Sheet) (i : Instruction) where
   -- the number that is told is 6 exactly if the value is outside its field
   pub number_written_6 : Exactly ((write_of k i).number ≡ outside_field) (OutsideField k i)
   number_written_6 = number_6 (written_so k i)
 
-  pub written_6 : {a : Writing} → IsWritten k i a → Exactly (a ≡ Unwritten outside_field) (OutsideField k i)
+  pub written_6 : {a : Result ℕ Refusal} → IsWritten k i a → Exactly (a ≡ Err OutOfField) (OutsideField k i)
   written_6 f = answer_6 (written_so k i) f.tells
 
   -- no number but 6
-  pub unwritten_6 : (n : ℕ) → IsWritten k i (Unwritten n) → n ≡ outside_field
-  unwritten_6 n f = only_6 (written_so k i) f.tells
+  pub unwritten_6 : (e : Refusal) → IsWritten k i (Err e) → e ≡ OutOfField
+  unwritten_6 e f = number_one e OutOfField (only_6 (written_so k i) f.tells)
 
-  pub unwritten_not_0 : (n : ℕ) → IsWritten k i (Unwritten n) → n ≢ 0
-  unwritten_not_0 n f z = omega (arith, unwritten_6 n f)
+  pub unwritten_not_0 : (e : Refusal) → IsWritten k i (Err e) → number_of e ≢ 0
+  unwritten_not_0 e f = number_some e
 
 -- the new set's
 module _ (i : Added) where
   pub number_added_6 : Exactly ((write_added i).number ≡ outside_field) (OutsideAdded i)
   number_added_6 = number_6 (added_so i)
 
-  pub written_added_6 : {a : Writing} → IsWrittenAdded i a → Exactly (a ≡ Unwritten outside_field) (OutsideAdded i)
+  pub written_added_6 : {a : Result ℕ Refusal} → IsWrittenAdded i a → Exactly (a ≡ Err OutOfField) (OutsideAdded i)
   written_added_6 f = answer_6 (added_so i) f.tells
 
-  pub unwritten_added_6 : (n : ℕ) → IsWrittenAdded i (Unwritten n) → n ≡ outside_field
-  unwritten_added_6 n f = only_6 (added_so i) f.tells
+  pub unwritten_added_6 : (e : Refusal) → IsWrittenAdded i (Err e) → e ≡ OutOfField
+  unwritten_added_6 e f = number_one e OutOfField (only_6 (added_so i) f.tells)
 
-  pub unwritten_added_not_0 : (n : ℕ) → IsWrittenAdded i (Unwritten n) → n ≢ 0
-  unwritten_added_not_0 n f z = omega (arith, unwritten_added_6 n f)
+  pub unwritten_added_not_0 : (e : Refusal) → IsWrittenAdded i (Err e) → number_of e ≢ 0
+  unwritten_added_not_0 e f = number_some e

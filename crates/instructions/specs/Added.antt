@@ -1,10 +1,11 @@
 -- The new command set: its thirteen bytes, as they are read with what is awaited and as they are written.
 -- Assumes nothing.
-use Rattle.std.specs.Prelude.{ℕ, ◌-◌, ◌%◌, ◌≤◌, ◌≡◌, Bool, true, false, cond, not, ◌||◌, eqb}
+use Rattle.std.specs.Prelude.{ℕ, ◌-◌, ◌%◌, ◌≤◌, ◌≡◌, Bool, true, false, cond, not, ◌||◌, eqb, Result}
 use Rattle.std.proofs.Math.Option.{Option, none, some}
 use Rattle.paper.specs.Refusal.{out_of_range, unassigned}
-use Rattle.paper.specs.Told.{Told, given, refused}
-use Rattle.instructions.specs.Write.{field_of, told_writing}
+use Rattle.paper.specs.Told.{Told, given, refused, told}
+use Rattle.paper.specs.declared.refusal.Refusal.{Refusal}
+use Rattle.instructions.specs.Write.{field_of}
 use Rattle.instructions.specs.Read.{within, assigned}
 use Rattle.instructions.specs.declared.instruction.Awaited.{Awaited}
 use Rattle.instructions.specs.declared.instruction.Awaited.TheVariants as awaited
@@ -12,9 +13,6 @@ use Rattle.instructions.specs.declared.added.CommandSet.{CommandSet}
 use Rattle.instructions.specs.declared.added.CommandSet.TheVariants.{Old, New}
 use Rattle.instructions.specs.declared.added.Added.{Added}
 use Rattle.instructions.specs.declared.added.Added.TheVariants.{Com0Next, Com0Value, DutyNext, DutyValue, InversionNext, InversionValue, FrameInversion}
-use Rattle.instructions.specs.declared.added.AddedReading.{AddedReading}
-use Rattle.instructions.specs.declared.added.AddedReading.TheVariants.{ReadAs, Unread}
-use Rattle.instructions.specs.declared.write.Writing.{Writing}
 
 -- ---- the sets
 
@@ -108,15 +106,10 @@ added_again t = added_written t.value t.number
 
 -- ---- the promises
 
--- an answer as the paper tells it
-abbrev pub told_added : AddedReading → Told Added
-told_added (ReadAs i) = given i
-told_added (Unread n) = refused n
-
 -- what the reader promises
-pub record IsReadAdded (a : Awaited) (b : ℕ) (r : AddedReading) : Type 0 where
-  pub tells : told_added r ≡ read_added a b
+pub record IsReadAdded (a : Awaited) (b : ℕ) (r : Result Added Refusal) : Type 0 where
+  pub tells : told r ≡ read_added a b
 
 -- what the writer promises
-pub record IsWrittenAdded (i : Added) (a : Writing) : Type 0 where
-  pub tells : told_writing a ≡ write_added i
+pub record IsWrittenAdded (i : Added) (a : Result ℕ Refusal) : Type 0 where
+  pub tells : told a ≡ write_added i

@@ -2,3 +2,4 @@ pub mod Write
 pub mod Read
 pub mod Class
 pub mod Added
+pub mod Numbers

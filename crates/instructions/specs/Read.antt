@@ -1,17 +1,16 @@
 -- What a byte is read as, with what is awaited.
 -- Assumes nothing.
-use Rattle.std.specs.Prelude.{ℕ, ◌+◌, ◌-◌, ◌%◌, ◌≡◌, Bool, true, false, cond, not, ◌&&◌, ltb, leb, eqb}
+use Rattle.std.specs.Prelude.{ℕ, ◌+◌, ◌-◌, ◌%◌, ◌≡◌, Bool, true, false, cond, not, ◌&&◌, ltb, leb, eqb, Result}
 use Rattle.std.proofs.Math.Option.{Option, none, some}
 use Rattle.paper.specs.Refusal.{out_of_range, unassigned}
-use Rattle.paper.specs.Told.{Told, given, refused}
+use Rattle.paper.specs.Told.{Told, given, refused, told}
+use Rattle.paper.specs.declared.refusal.Refusal.{Refusal}
 use Rattle.paper.specs.declared.sheet.Sheet.{Sheet}
 use Rattle.instructions.specs.Write.{write_of}
 use Rattle.instructions.specs.declared.instruction.Awaited.{Awaited}
 use Rattle.instructions.specs.declared.instruction.Awaited.TheVariants as awaited
 use Rattle.instructions.specs.declared.instruction.Instruction.{Instruction}
 use Rattle.instructions.specs.declared.instruction.Instruction.TheVariants.{ColumnLow, ColumnHigh, Resistor, Power, StartLine, ContrastNext, ContrastValue, Adc, Bias, Entire, Reverse, IndicatorOff, IndicatorOn, IndicatorValue, Display, Page, Shl, ModifyReadOn, ModifyReadOff, Reset, Nop}
-use Rattle.instructions.specs.declared.read.Reading.{Reading}
-use Rattle.instructions.specs.declared.read.Reading.TheVariants.{ReadAs, Unread}
 
 -- from one byte of the table through another
 abbrev pub within : ℕ → ℕ → ℕ → Bool
@@ -132,11 +131,6 @@ awaited_for ModifyReadOff = awaited.Nothing
 awaited_for Reset = awaited.Nothing
 awaited_for Nop = awaited.Nothing
 
--- an answer as the paper tells it
-abbrev pub told_reading : Reading → Told Instruction
-told_reading (ReadAs i) = given i
-told_reading (Unread n) = refused n
-
 -- what the reader promises
-pub record IsRead (k : Sheet) (a : Awaited) (b : ℕ) (r : Reading) : Type 0 where
-  pub tells : told_reading r ≡ read_of k a b
+pub record IsRead (k : Sheet) (a : Awaited) (b : ℕ) (r : Result Instruction Refusal) : Type 0 where
+  pub tells : told r ≡ read_of k a b

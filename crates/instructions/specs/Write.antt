@@ -1,13 +1,12 @@
 -- What an instruction is written as: document 01's table, row by row.
 -- Assumes nothing.
-use Rattle.std.specs.Prelude.{ℕ, ◌+◌, ◌≤◌, ◌≡◌, Bool, cond, ltb}
+use Rattle.std.specs.Prelude.{ℕ, ◌+◌, ◌≤◌, ◌≡◌, Bool, cond, ltb, Result}
 use Rattle.paper.specs.Refusal.{outside_field}
-use Rattle.paper.specs.Told.{Told, given, refused}
+use Rattle.paper.specs.Told.{Told, given, refused, told}
+use Rattle.paper.specs.declared.refusal.Refusal.{Refusal}
 use Rattle.paper.specs.declared.sheet.Sheet.{Sheet}
 use Rattle.instructions.specs.declared.instruction.Instruction.{Instruction}
 use Rattle.instructions.specs.declared.instruction.Instruction.TheVariants.{ColumnLow, ColumnHigh, Resistor, Power, StartLine, ContrastNext, ContrastValue, Adc, Bias, Entire, Reverse, IndicatorOff, IndicatorOn, IndicatorValue, Display, Page, Shl, ModifyReadOn, ModifyReadOff, Reset, Nop}
-use Rattle.instructions.specs.declared.write.Writing.{Writing}
-use Rattle.instructions.specs.declared.write.Writing.TheVariants.{WrittenAs, Unwritten}
 
 -- a value in the field of `count` values that starts at byte `base`
 unfoldable pub field_of : ℕ → ℕ → ℕ → Told ℕ
@@ -66,11 +65,6 @@ OutsideField k ModifyReadOff = ⊥
 OutsideField k Reset = ⊥
 OutsideField k Nop = ⊥
 
--- an answer as the paper tells it
-abbrev pub told_writing : Writing → Told ℕ
-told_writing (WrittenAs b) = given b
-told_writing (Unwritten n) = refused n
-
 -- what the writer promises
-pub record IsWritten (k : Sheet) (i : Instruction) (a : Writing) : Type 0 where
-  pub tells : told_writing a ≡ write_of k i
+pub record IsWritten (k : Sheet) (i : Instruction) (a : Result ℕ Refusal) : Type 0 where
+  pub tells : told a ≡ write_of k i

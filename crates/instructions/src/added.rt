@@ -1,20 +1,48 @@
 // The KS0759's command set, which stands beside the old one: its instructions, one for each row of order 13 and one for each second
 // byte, their reader and their writer. No byte of it depends on the chip.
 ghost use Rattle.std.specs.Prelude.{◌≡◌};
-ghost use Rattle.instructions.specs.Added.{is_new, of_other, added_first, told_added, IsReadAdded, IsWrittenAdded};
+ghost use Rattle.paper.specs.Told.{told};
+ghost use Rattle.instructions.specs.Numbers.{set_byte, IsSet};
+ghost use Rattle.instructions.specs.Added.{is_new, of_other, added_first, IsReadAdded, IsWrittenAdded};
 
 use crate::instruction::Awaited;
-use crate::write::{Writing, field};
-use paper::refusal::{OUT_OF_RANGE, UNASSIGNED};
+use crate::write::field;
+use paper::refusal::Refusal;
 
 // Which command set is in force.
-#[derive(Clone, Copy)]
+#[derive(Clone, Copy, Debug, PartialEq, Eq)]
 pub enum CommandSet {
     Old,
     New,
 }
 
-#[derive(Clone, Copy)]
+impl From<CommandSet> for u8 {
+    ghost from_gives = { λ s n. n ≡ set_byte s };
+
+    fn from(set: CommandSet) -> u8 {
+        match set {
+            CommandSet::Old => 0,
+            CommandSet::New => 1,
+        }
+    }
+}
+
+// A number above 1 is refused with 2.
+impl TryFrom<u8> for CommandSet {
+    type Error = Refusal;
+
+    ghost try_from_gives = { IsSet };
+
+    fn try_from(number: u8) -> Result<Self, Refusal> {
+        match number {
+            0 => Ok(CommandSet::Old),
+            1 => Ok(CommandSet::New),
+            _ => Err(Refusal::OutOfRange),
+        }
+    }
+}
+
+#[derive(Clone, Copy, Debug, PartialEq, Eq)]
 pub enum Added {
     // 44-47: the next instruction byte is initial COM0, and that byte.
     Com0Next,
@@ -29,21 +57,11 @@ pub enum Added {
     FrameInversion,
 }
 
-// What a byte is read as, or the number of the refusal.
-#[derive(Clone, Copy)]
-pub enum AddedReading {
-    ReadAs(Added),
-    Unread(u8),
-}
-
-// Whether a set is the new one.
+// Whether a set is the new one: what definitions and the other crates speak by.
 pub fn is_new(set: CommandSet) -> bool
     ensures { result ≡ is_new set }
 {
-    match set {
-        CommandSet::Old => false,
-        CommandSet::New => true,
-    }
+    set == CommandSet::New
 }
 
 // Whether the awaited byte is one of the other set than the one in force.
@@ -53,60 +71,50 @@ pub fn of_other(set: CommandSet, awaited: Awaited) -> bool
     let new = is_new(set);
     match awaited {
         Awaited::Nothing => false,
-        Awaited::Contrast => new,
-        Awaited::Indicator => new,
-        Awaited::Com0 => !new,
-        Awaited::Duty => !new,
-        Awaited::Inversion => !new,
+        Awaited::Contrast | Awaited::Indicator => new,
+        Awaited::Com0 | Awaited::Duty | Awaited::Inversion => !new,
     }
 }
 
 // A byte where nothing is awaited.
 #[tactic(auto, using(paper::proofs::Tests::tests), unfolding(crate::specs::Added::added_first))]
-fn read_first(byte: u8) -> AddedReading
-    ensures { told_added result ≡ added_first byte }
+fn read_first(byte: u8) -> Result<Added, Refusal>
+    ensures { told result ≡ added_first byte }
 {
-    if (0x44 <= byte) & (byte <= 0x47) {
-        return AddedReading::ReadAs(Added::Com0Next);
+    match byte {
+        0x44..=0x47 => Ok(Added::Com0Next),
+        0x48..=0x4b => Ok(Added::DutyNext),
+        0x4c..=0x4f => Ok(Added::InversionNext),
+        0xe4 => Ok(Added::FrameInversion),
+        _ => Err(Refusal::Unassigned),
     }
-    if (0x48 <= byte) & (byte <= 0x4b) {
-        return AddedReading::ReadAs(Added::DutyNext);
-    }
-    if (0x4c <= byte) & (byte <= 0x4f) {
-        return AddedReading::ReadAs(Added::InversionNext);
-    }
-    if byte == 0xe4 {
-        return AddedReading::ReadAs(Added::FrameInversion);
-    }
-    AddedReading::Unread(UNASSIGNED)
 }
 
 // Reads one byte of the new set, with what is awaited. Refuses with 2 where that is a byte of the old set, and with 4. A second byte is
 // taken whatever its value.
-pub fn read_added(awaited: Awaited, byte: u8) -> AddedReading
+pub fn read_added(awaited: Awaited, byte: u8) -> Result<Added, Refusal>
     ensures { IsReadAdded awaited byte result }
 {
     match awaited {
         Awaited::Nothing => read_first(byte),
-        Awaited::Contrast => AddedReading::Unread(OUT_OF_RANGE),
-        Awaited::Indicator => AddedReading::Unread(OUT_OF_RANGE),
-        Awaited::Com0 => AddedReading::ReadAs(Added::Com0Value(byte % 128)),
-        Awaited::Duty => AddedReading::ReadAs(Added::DutyValue(byte % 128)),
-        Awaited::Inversion => AddedReading::ReadAs(Added::InversionValue(byte % 32)),
+        Awaited::Contrast | Awaited::Indicator => Err(Refusal::OutOfRange),
+        Awaited::Com0 => Ok(Added::Com0Value(byte % 128)),
+        Awaited::Duty => Ok(Added::DutyValue(byte % 128)),
+        Awaited::Inversion => Ok(Added::InversionValue(byte % 32)),
     }
 }
 
 // Writes one instruction of the new set as a byte with its free bits 0. Refuses with 6.
-pub fn write_added(added: Added) -> Writing
+pub fn write_added(added: Added) -> Result<u8, Refusal>
     ensures { IsWrittenAdded added result }
 {
     match added {
-        Added::Com0Next => Writing::WrittenAs(0x44),
+        Added::Com0Next => Ok(0x44),
         Added::Com0Value(v) => field(0x00, 128, v),
-        Added::DutyNext => Writing::WrittenAs(0x48),
+        Added::DutyNext => Ok(0x48),
         Added::DutyValue(v) => field(0x00, 128, v),
-        Added::InversionNext => Writing::WrittenAs(0x4c),
+        Added::InversionNext => Ok(0x4c),
         Added::InversionValue(v) => field(0x00, 32, v),
-        Added::FrameInversion => Writing::WrittenAs(0xe4),
+        Added::FrameInversion => Ok(0xe4),
     }
 }

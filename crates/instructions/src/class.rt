@@ -1,6 +1,7 @@
 // The table of the 256 instruction bytes.
 ghost use Rattle.instructions.specs.Class.{IsTable, IsClass};
 
+// Numbers, and 0 for none: document 01 names this table, and `class_of` promises its numbers (`IsClass`).
 // The class of each byte: its row of document 01's table, or 0 where the byte is unassigned. A row's first and last byte stand
 // beside their entries.
 const CLASSES: [u8; 256] = [

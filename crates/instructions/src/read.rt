@@ -1,19 +1,12 @@
 // The reader: one byte, with what is awaited.
 ghost use Rattle.std.specs.Prelude.{◌≡◌};
-ghost use Rattle.paper.specs.Sheet.{sheet0713, sheet0717};
-ghost use Rattle.instructions.specs.Read.{room_in, read_by, told_reading, IsRead};
+ghost use Rattle.paper.specs.Told.{told};
+ghost use Rattle.instructions.specs.Read.{room_in, read_by, IsRead};
 
 use crate::class::class_of;
 use crate::instruction::{Awaited, Instruction};
-use paper::refusal::{OUT_OF_RANGE, UNASSIGNED};
-use paper::sheet::{Sheet, ks0713, ks0717};
-
-// What a byte is read as, or the number of the refusal.
-#[derive(Clone, Copy)]
-pub enum Reading {
-    ReadAs(Instruction),
-    Unread(u8),
-}
+use paper::refusal::Refusal;
+use paper::sheet::{Chip, Sheet};
 
 // The high part of a column, less the bit that the counter has no room for.
 fn room_in(highs: u8, high: u8) -> u8
@@ -24,62 +17,50 @@ fn room_in(highs: u8, high: u8) -> u8
 
 // What a byte of a class is read as.
 #[tactic(auto, using(paper::proofs::Tests::tests), unfolding(crate::specs::Read::read_by))]
-fn read_by(chip: Sheet, class: u8, byte: u8) -> Reading
-    ensures { told_reading result ≡ read_by chip class byte }
+fn read_by(chip: Sheet, class: u8, byte: u8) -> Result<Instruction, Refusal>
+    ensures { told result ≡ read_by chip class byte }
 {
     match class {
-        1 => Reading::ReadAs(Instruction::ColumnLow(byte % 16)),
-        2 => Reading::ReadAs(Instruction::ColumnHigh(room_in(chip.highs, byte % 16))),
-        3 => Reading::ReadAs(Instruction::Resistor(byte % 8)),
-        4 => Reading::ReadAs(Instruction::Power(byte % 8)),
-        5 => Reading::ReadAs(Instruction::StartLine(byte % 64)),
-        6 => Reading::ReadAs(Instruction::ContrastNext),
-        7 => Reading::ReadAs(Instruction::Adc(byte % 2 == 1)),
-        8 => Reading::ReadAs(Instruction::Bias(byte % 2 == 1)),
-        9 => Reading::ReadAs(Instruction::Entire(byte % 2 == 1)),
-        10 => Reading::ReadAs(Instruction::Reverse(byte % 2 == 1)),
-        11 => Reading::ReadAs(Instruction::IndicatorOff),
-        12 => Reading::ReadAs(Instruction::IndicatorOn),
-        13 => Reading::ReadAs(Instruction::Display(byte % 2 == 1)),
-        14 => Reading::ReadAs(Instruction::Page(byte % 16)),
-        15 => Reading::ReadAs(Instruction::Shl(8 <= byte % 16)),
-        16 => Reading::ReadAs(Instruction::ModifyReadOn),
-        17 => Reading::ReadAs(Instruction::ModifyReadOff),
-        18 => Reading::ReadAs(Instruction::Reset),
-        19 => Reading::ReadAs(Instruction::Nop),
-        _ => Reading::Unread(UNASSIGNED),
+        1 => Ok(Instruction::ColumnLow(byte % 16)),
+        2 => Ok(Instruction::ColumnHigh(room_in(chip.highs, byte % 16))),
+        3 => Ok(Instruction::Resistor(byte % 8)),
+        4 => Ok(Instruction::Power(byte % 8)),
+        5 => Ok(Instruction::StartLine(byte % 64)),
+        6 => Ok(Instruction::ContrastNext),
+        7 => Ok(Instruction::Adc(byte % 2 == 1)),
+        8 => Ok(Instruction::Bias(byte % 2 == 1)),
+        9 => Ok(Instruction::Entire(byte % 2 == 1)),
+        10 => Ok(Instruction::Reverse(byte % 2 == 1)),
+        11 => Ok(Instruction::IndicatorOff),
+        12 => Ok(Instruction::IndicatorOn),
+        13 => Ok(Instruction::Display(byte % 2 == 1)),
+        14 => Ok(Instruction::Page(byte % 16)),
+        15 => Ok(Instruction::Shl(8 <= byte % 16)),
+        16 => Ok(Instruction::ModifyReadOn),
+        17 => Ok(Instruction::ModifyReadOff),
+        18 => Ok(Instruction::Reset),
+        19 => Ok(Instruction::Nop),
+        _ => Err(Refusal::Unassigned),
     }
 }
 
 // Reads one byte, for any chip's sheet. A second byte is taken whatever its value; where one of the new set is awaited, none of this
 // set is read.
 #[tactic(auto, unfolding(crate::specs::Read::read_first))]
-pub fn read_for(chip: Sheet, awaited: Awaited, byte: u8) -> Reading
+pub fn read_for(chip: Sheet, awaited: Awaited, byte: u8) -> Result<Instruction, Refusal>
     ensures { IsRead chip awaited byte result }
 {
     match awaited {
-        Awaited::Nothing => {
-            let class = class_of(byte);
-            read_by(chip, class, byte)
-        }
-        Awaited::Contrast => Reading::ReadAs(Instruction::ContrastValue(byte % 64)),
-        Awaited::Indicator => Reading::ReadAs(Instruction::IndicatorValue(byte % 4)),
-        Awaited::Com0 => Reading::Unread(OUT_OF_RANGE),
-        Awaited::Duty => Reading::Unread(OUT_OF_RANGE),
-        Awaited::Inversion => Reading::Unread(OUT_OF_RANGE),
+        Awaited::Nothing => read_by(chip, class_of(byte), byte),
+        Awaited::Contrast => Ok(Instruction::ContrastValue(byte % 64)),
+        Awaited::Indicator => Ok(Instruction::IndicatorValue(byte % 4)),
+        Awaited::Com0 | Awaited::Duty | Awaited::Inversion => Err(Refusal::OutOfRange),
     }
 }
 
-// Reads one byte of the KS0713, with what is awaited. Refuses with 2 where that is a byte of the new set, and with 4.
-pub fn read_instruction(awaited: Awaited, byte: u8) -> Reading
-    ensures { IsRead sheet0713 awaited byte result }
+// Reads one byte of a chip, with what is awaited. Refuses with 2 where that is a byte of the new set, and with 4.
+pub fn read_instruction<C: Chip>(awaited: Awaited, byte: u8) -> Result<Instruction, Refusal>
+    ensures { IsRead C.sheet awaited byte result }
 {
-    read_for(ks0713(), awaited, byte)
-}
-
-// Reads one byte of the KS0717, with what is awaited. Refuses with 2 where that is a byte of the new set, and with 4.
-pub fn read_ks0717(awaited: Awaited, byte: u8) -> Reading
-    ensures { IsRead sheet0717 awaited byte result }
-{
-    read_for(ks0717(), awaited, byte)
+    read_for(C::sheet(), awaited, byte)
 }

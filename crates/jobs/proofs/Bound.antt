@@ -11,7 +11,7 @@ use borrow.Author.Tests.{ltb-false}
 use lib.Dec.{ltb, eqb}
 use lib.ListN.{length, length-append}
 use Rattle.paper.specs.Sheet.{sheet0713}
-use Rattle.paper.proofs.Sensible.{sensible0713}
+use Rattle.paper.specs.Sheet.{sensible0713}
 use Rattle.paper.proofs.Cases.{split, chosen}
 use Rattle.instructions.specs.Added.{is_new}
 use Rattle.registers.specs.declared.Beside.{Beside}

@@ -3,29 +3,16 @@
 use Prim.Native.Nat.{ℕ, zero, suc, ◌+◌, ◌-◌, ◌*◌, ◌≤◌, ◌<◌, min}
 use mathlib.Core.Path.{◌≡◌, refl, sym, ap, ◌∙◌}
 use mathlib.Core.List.{List, [], ◌∷◌, ◌++◌}
-use native.Mathlib.Numerals.{add-one}
 use native.Mathlib.Omega.{arith}
 use borrow.Author.Tests.{lt-ltb, le-ltb, ltb-false}
 use lib.Dec.{ltb}
-use lib.ListN.{length, take, drop, get_or, set, replicate, length-append, length-replicate, length-drop, drop_of_length-le}
-use lib.Seq.{take-suc, take-suc-set, take_all, take_at, get_or-take, length-take-le}
+use Rattle.std.proofs.lemmas.List.{take-replicate}
+use lib.ListN.{length, take, drop, replicate, length-append, length-replicate, length-drop, drop_of_length-le}
+use lib.Seq.{take_all, take_at, length-take-le}
 use Rattle.paper.proofs.Cases.{split, less}
 use Rattle.jobs.specs.Memory.{start_memory, filled_up}
 use Rattle.jobs.specs.Output.{Holds}
 use Rattle.jobs.specs.declared.header.Job.{Job}
-
--- ---- zeros behind a list
-
-zero_at : (n k : ℕ) → ◌≡◌ {A = ℕ} (get_or (replicate n 0) k 0) 0
-zero_at zero k = refl
-zero_at (suc n) zero = refl
-zero_at (suc n) (suc k) = zero_at n k
-
--- they are what a list gives where it has no entry
-behind : (m : List ℕ) (n k : ℕ) → get_or (m ++ replicate n 0) k 0 ≡ get_or m k 0
-behind [] n k = zero_at n k
-behind (x ∷ m) n zero = refl
-behind (x ∷ m) n (suc k) = behind m n k
 
 -- what is cut off may be cut off before
 cut_before : (n : ℕ) (m z : List ℕ) → take n (take n m ++ z) ≡ take n (m ++ z)
@@ -35,13 +22,9 @@ cut_before (suc n) (x ∷ m) z = ap (λ (l : List ℕ). x ∷ l) (cut_before n m
 
 -- ---- n bytes, with zeros where there are none
 
-filled_long : (n : ℕ) (m : List ℕ) → length (filled_up n m) ≡ n
+pub filled_long : (n : ℕ) (m : List ℕ) → length (filled_up n m) ≡ n
 unfolding filled_up
 filled_long n m = length-take-le n (m ++ replicate n 0) (rw (length-append, length-replicate) (omega arith))
-
-filled_at : (n : ℕ) (m : List ℕ) (k : ℕ) → k < n → get_or (filled_up n m) k 0 ≡ get_or m k 0
-unfolding filled_up
-filled_at n m k h = get_or-take n (m ++ replicate n 0) k 0 h ∙ behind m n k
 
 filled_whole : (n : ℕ) (m : List ℕ) → length m ≡ n → filled_up n m ≡ m
 unfolding filled_up
@@ -51,16 +34,17 @@ filled_taken : (n : ℕ) (m : List ℕ) → filled_up n (take n m) ≡ filled_up
 unfolding filled_up
 filled_taken n m = cut_before n m (replicate n 0)
 
--- stored a byte at a time
-module _ (n : ℕ) (bytes memory : List ℕ) (long : length memory ≡ n) where
-  pub load_step : (i : ℕ) {v : ℕ} → i < n → v ≡ get_or bytes i 0 → take i memory ≡ take i (filled_up n bytes)
-      → take (i + 1) (set memory i v) ≡ take (i + 1) (filled_up n bytes)
-  load_step i h e q =
-      let last : i < length (filled_up n bytes) = rw filled_long (omega arith) in
-      rw (add-one, take-suc-set memory i _ (omega arith), take-suc (filled_up n bytes) i 0 last, filled_at n bytes i h, q, e)
+-- copied over zeros, as many bytes as there are and at most n
+copied : (n j k : ℕ) (m : List ℕ) → n ≤ j → k ≡ min (length m) n → take k m ++ drop k (replicate n 0) ≡ take n (m ++ replicate j 0)
+copied zero j k m h e = let z : k ≡ 0 = omega arith in rw z
+copied (suc n) j k [] h e = let z : k ≡ 0 = omega arith in rw (z, take-replicate {X = ℕ} (suc n) j 0 h)
+copied (suc n) j k (x ∷ m) h e =
+    let z : k ≡ suc (k - 1) = omega arith in
+    rw z (ap (λ (l : List ℕ). x ∷ l) (copied n j (k - 1) m (omega arith) (omega arith)))
 
-  pub load_end : (i : ℕ) → n ≤ i → take i memory ≡ take i (filled_up n bytes) → memory ≡ filled_up n bytes
-  load_end i h q = sym (take_all i memory (omega arith)) ∙ q ∙ take_all i (filled_up n bytes) (rw filled_long (omega arith))
+pub load_copied : (n k : ℕ) (m : List ℕ) → k ≡ min (length m) n → take k m ++ drop k (replicate n 0) ≡ filled_up n m
+unfolding filled_up
+load_copied n k m = copied n n k m (omega arith)
 
 -- ---- the memory at power-up
 

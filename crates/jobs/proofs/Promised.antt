@@ -3,7 +3,7 @@
 -- the output as it was.
 -- Assumes nothing.
 use Prim.Native.Nat.{ℕ, zero, suc, ◌+◌, ◌≤◌, ◌<◌}
-use mathlib.Core.Path.{◌≡◌, refl, sym, ap, subst, ◌∙◌}
+use mathlib.Core.Path.{◌≡◌, sym, ap, subst, ◌∙◌}
 use mathlib.Core.Logic.{◌≢◌, ◌⊎◌, inl, inr, ⊎_elim}
 use mathlib.Core.Bool.{true, false, cond}
 use mathlib.Core.List.{List, ◌++◌}
@@ -11,45 +11,32 @@ use native.Mathlib.Omega.{arith}
 use borrow.Author.Tests.{ltb-true, ltb-false, lt-ltb, le-ltb}
 use lib.Dec.{T, ltb}
 use lib.ListN.{length, drop}
-use Rattle.paper.specs.Refusal.{short_output, short_job, wrong_header, wrong_cycle}
-use Rattle.paper.specs.Told.{refused}
-use Rattle.paper.proofs.Telling.{apart, answer_of, not_given}
+use Rattle.std.specs.Prelude.{Result, Ok, Err}
+use Rattle.paper.specs.Refusal.{short_job, wrong_header, wrong_cycle, number_of}
+use Rattle.paper.specs.Told.{refused, told}
+use Rattle.paper.specs.declared.refusal.Refusal.{Refusal}
+use Rattle.paper.specs.declared.refusal.Refusal.TheVariants.{ShortJob, WrongHeader, WrongCycle as NoCycle, ShortOutput}
+use Rattle.paper.proofs.Refusing.{ok_told, err_told, err_exactly}
+use Rattle.paper.proofs.Telling.{told_one, number_one, number_some, not_given}
 use Rattle.paper.proofs.Cases.{split, less}
 use Rattle.paper.proofs.Either.{or_true}
 use Rattle.paper.proofs.Exactly.{Exactly, then, both, same_number, here, past, nowhere}
 use Rattle.controller.specs.Cycle.{malformed}
-use Rattle.jobs.specs.Header.{word_at, cycle_at, wrong_cycles, job_of, header_of, told_header, IsHeader}
-use Rattle.jobs.specs.Play.{text_of, longest, told_played, IsPlayed}
-use Rattle.jobs.specs.declared.header.Header.{Header}
-use Rattle.jobs.specs.declared.header.Header.TheVariants as header
-use Rattle.jobs.specs.declared.play.Played.{Played}
-use Rattle.jobs.specs.declared.play.Played.TheVariants as played
+use Rattle.jobs.specs.Header.{word_at, cycle_at, wrong_cycles, job_of, header_of, IsHeader}
+use Rattle.jobs.specs.Play.{text_of, longest, IsPlayed}
+use Rattle.jobs.specs.declared.header.Job.{Job}
 use Rattle.jobs.proofs.Scan.{Sized, sizes_right, right_sizes, sizes_wrong, cycles_wrong, Way, short, sizes, cycle, good, way}
 use Rattle.jobs.proofs.Bound.{text_fits}
 
 -- ---- one answer
 
-header_back : (a : Header) → answer_of header.Good header.Refused (told_header a) ≡ a
-header_back (header.Good j) = refl
-header_back (header.Refused n) = refl
-
-header_told : (a b : Header) → told_header a ≡ told_header b → a ≡ b
-header_told = apart told_header (answer_of header.Good header.Refused) header_back
-
 -- two headers that the promise admits are equal
-pub header_one : {file : List ℕ} {a b : Header} → IsHeader file a → IsHeader file b → a ≡ b
-header_one {a = a} {b = b} f g = header_told a b (f.tells ∙ sym g.tells)
-
-played_back : (a : Played) → answer_of played.Text played.Refused (told_played a) ≡ a
-played_back (played.Text k) = refl
-played_back (played.Refused n) = refl
-
-played_told : (a b : Played) → told_played a ≡ told_played b → a ≡ b
-played_told = apart told_played (answer_of played.Text played.Refused) played_back
+pub header_one : {file : List ℕ} {a b : Result Job Refusal} → IsHeader file a → IsHeader file b → a ≡ b
+header_one {a = a} {b = b} f g = told_one a b (f.tells ∙ sym g.tells)
 
 -- two answers and outputs that the promise admits are equal
-pub played_one : {file out : List ℕ} {a b : Played} {l m : List ℕ} → IsPlayed file out a l → IsPlayed file out b m → (a ≡ b) × (l ≡ m)
-played_one {a = a} {b = b} f g = (played_told a b (f.tells ∙ sym g.tells), f.leaves ∙ sym g.leaves)
+pub played_one : {file out : List ℕ} {a b : Result ℕ Refusal} {l m : List ℕ} → IsPlayed file out a l → IsPlayed file out b m → (a ≡ b) × (l ≡ m)
+played_one {a = a} {b = b} f g = (told_one a b (f.tells ∙ sym g.tells), f.leaves ∙ sym g.leaves)
 
 -- ---- the tests in the words of the table
 
@@ -102,51 +89,46 @@ module _ (file : List ℕ) where
 
 -- ---- a header is refused with 7, 8 or 9, and with nothing else
 
--- a number that is not 0 is a refusal's
-header_refused : (n : ℕ) (a : Header) → n ≢ 0 → Exactly (a ≡ header.Refused n) ((told_header a).number ≡ n)
-header_refused n (header.Good j) h = (λ e. ap (λ x. (told_header x).number) e, λ e. absurd (h (sym e)))
-header_refused n (header.Refused k) h = (λ e. ap (λ x. (told_header x).number) e, λ e. ap header.Refused e)
-
 number_by_lem : (file : List ℕ) → Way file → (header_of file).number ≡ cond (ltb (length file) 8) short_job (cond (sizes_wrong file) wrong_header (cond (cycles_wrong file) wrong_cycle 0))
 number_by_lem file (short h e) = rw (e, lt-ltb _ _ h)
 number_by_lem file (sizes h s e) = rw (e, le-ltb _ _ h, s)
 number_by_lem file (cycle h s c e) = rw (e, le-ltb _ _ h, s, c)
 number_by_lem file (good h s c e) = rw (e, le-ltb _ _ h, s, c)
 
-module _ (file : List ℕ) (a : Header) (f : IsHeader file a) where
-  numbered : (n : ℕ) → n ≢ 0 → Exactly (a ≡ header.Refused n) (cond (ltb (length file) 8) short_job (cond (sizes_wrong file) wrong_header (cond (cycles_wrong file) wrong_cycle 0)) ≡ n)
-  numbered n h = then (header_refused n a h) (same_number (ap (λ t. t.number) f.tells ∙ number_by_lem file (way file)))
+module _ (file : List ℕ) (a : Result Job Refusal) (f : IsHeader file a) where
+  numbered : (e : Refusal) → Exactly (a ≡ Err e) (cond (ltb (length file) 8) short_job (cond (sizes_wrong file) wrong_header (cond (cycles_wrong file) wrong_cycle 0)) ≡ number_of e)
+  numbered e = then (err_exactly a e) (same_number (ap (λ t. t.number) f.tells ∙ number_by_lem file (way file)))
 
-  pub header_7 : Exactly (a ≡ header.Refused short_job) (length file < 8)
+  pub header_7 : Exactly (a ≡ Err ShortJob) (length file < 8)
   header_7 =
-      then (numbered 7 (λ e. omega arith))
+      then (numbered ShortJob)
       (then
       (here (ltb (length file) 8) 7 _ (nowhere (sizes_wrong file) 8 _ 7 (λ e. omega arith) (nowhere (cycles_wrong file) 9 0 7 (λ e. omega arith) (λ e. omega arith))))
       (short_yes file))
 
-  pub header_8 : Exactly (a ≡ header.Refused wrong_header) ((8 ≤ length file) × (RightSizes file → ⊥))
+  pub header_8 : Exactly (a ≡ Err WrongHeader) ((8 ≤ length file) × (RightSizes file → ⊥))
   header_8 =
-      then (numbered 8 (λ e. omega arith))
+      then (numbered WrongHeader)
       (then (past (ltb (length file) 8) 7 _ 8 (λ e. omega arith))
       (both (short_no file)
       (then (here (sizes_wrong file) 8 _ (nowhere (cycles_wrong file) 9 0 8 (λ e. omega arith) (λ e. omega arith))) (sizes_yes file))))
 
-  pub header_9 : Exactly (a ≡ header.Refused wrong_cycle) ((8 ≤ length file) × (RightSizes file × WrongCycle file 0 (word_at file 0)))
+  pub header_9 : Exactly (a ≡ Err NoCycle) ((8 ≤ length file) × (RightSizes file × WrongCycle file 0 (word_at file 0)))
   header_9 =
-      then (numbered 9 (λ e. omega arith))
+      then (numbered NoCycle)
       (then (past (ltb (length file) 8) 7 _ 9 (λ e. omega arith))
       (both (short_no file)
       (then (past (sizes_wrong file) 8 _ 9 (λ e. omega arith))
       (both (sizes_no file) (then (here (cycles_wrong file) 9 0 (λ e. omega arith)) (cycles_yes file))))))
 
-  by_way : Way file → (8 ≤ length file) → RightSizes file → (WrongCycle file 0 (word_at file 0) → ⊥) → a ≡ header.Good (job_of file)
+  by_way : Way file → (8 ≤ length file) → RightSizes file → (WrongCycle file 0 (word_at file 0) → ⊥) → a ≡ Ok (job_of file)
   by_way (short h e) l s w = absurd (omega arith)
   by_way (sizes h t e) l s w = absurd ((sizes_yes file).0 t s)
   by_way (cycle h t c e) l s w = absurd (w ((cycles_yes file).0 c))
-  by_way (good h t c e) l s w = header_told a (header.Good (job_of file)) (f.tells ∙ e)
+  by_way (good h t c e) l s w = ok_told a (f.tells ∙ e)
 
   -- whatever has none of the faults is given
-  pub header_always : (8 ≤ length file) → RightSizes file → (WrongCycle file 0 (word_at file 0) → ⊥) → a ≡ header.Good (job_of file)
+  pub header_always : (8 ≤ length file) → RightSizes file → (WrongCycle file 0 (word_at file 0) → ⊥) → a ≡ Ok (job_of file)
   header_always = by_way (way file)
 
 only_by : (file : List ℕ) (n : ℕ) → Way file → refused n ≡ header_of file → (n ≡ short_job) ⊎ ((n ≡ wrong_header) ⊎ (n ≡ wrong_cycle))
@@ -155,38 +137,40 @@ only_by file n (sizes h s e) f = inr (inl (ap (λ t. t.number) (f ∙ e)))
 only_by file n (cycle h s c e) f = inr (inr (ap (λ t. t.number) (f ∙ e)))
 only_by file n (good h s c e) f = absurd (not_given (f ∙ e))
 
-pub header_only : (file : List ℕ) (n : ℕ) → IsHeader file (header.Refused n) → (n ≡ short_job) ⊎ ((n ≡ wrong_header) ⊎ (n ≡ wrong_cycle))
-header_only file n f = only_by file n (way file) f.tells
+pub header_only : (file : List ℕ) (e : Refusal) → IsHeader file (Err e) → (e ≡ ShortJob) ⊎ ((e ≡ WrongHeader) ⊎ (e ≡ NoCycle))
+header_only file e f = ⊎_elim
+    (λ n. inl (number_one e ShortJob n))
+    (λ g. inr (⊎_elim (λ n. inl (number_one e WrongHeader n)) (λ n. inr (number_one e NoCycle n)) g))
+    (only_by file (number_of e) (way file) f.tells)
 
-pub header_not_0 : (file : List ℕ) (n : ℕ) → IsHeader file (header.Refused n) → n ≢ 0
-header_not_0 file n f z = ⊎_elim (λ e. omega arith) (⊎_elim (λ e. omega arith) (λ e. omega arith)) (header_only file n f)
+pub header_not_0 : (file : List ℕ) (e : Refusal) → IsHeader file (Err e) → number_of e ≢ 0
+header_not_0 file e f = number_some e
 
 -- ---- play is refused with 5 exactly if the output is shorter than the text, and with nothing else
 
-module _ (file out : List ℕ) (a : Played) (left : List ℕ) (f : IsPlayed file out a left) where
-  pub played_short : length out < length (text_of file) → (a ≡ played.Refused short_output) × (left ≡ out)
-  played_short h = (played_told a (played.Refused short_output) (rw (lt-ltb _ _ h) at f.tells), rw (lt-ltb _ _ h) at f.leaves)
+module _ (file out : List ℕ) (a : Result ℕ Refusal) (left : List ℕ) (f : IsPlayed file out a left) where
+  pub played_short : length out < length (text_of file) → (a ≡ Err ShortOutput) × (left ≡ out)
+  played_short h = (err_told a (rw (lt-ltb _ _ h) at f.tells), rw (lt-ltb _ _ h) at f.leaves)
 
-  pub played_long : length (text_of file) ≤ length out → (a ≡ played.Text (length (text_of file))) × (left ≡ text_of file ++ drop (length (text_of file)) out)
-  played_long h = (played_told a (played.Text (length (text_of file))) (rw (le-ltb _ _ h) at f.tells), rw (le-ltb _ _ h) at f.leaves)
+  pub played_long : length (text_of file) ≤ length out → (a ≡ Ok (length (text_of file))) × (left ≡ text_of file ++ drop (length (text_of file)) out)
+  played_long h = (ok_told a (rw (le-ltb _ _ h) at f.tells), rw (le-ltb _ _ h) at f.leaves)
 
-  pub played_5 : Exactly (a ≡ played.Refused short_output) (length out < length (text_of file))
+  pub played_5 : Exactly (a ≡ Err ShortOutput) (length out < length (text_of file))
   played_5 = (
-    λ e. less (length out) (length (text_of file)) (λ h. h) (λ h. absurd (not_given (ap told_played (sym e ∙ (played_long h).0)))),
+    λ e. less (length out) (length (text_of file)) (λ h. h) (λ h. absurd (not_given (ap told (sym e ∙ (played_long h).0)))),
     λ h. (played_short h).0,
   )
 
   -- an output of `longest` bytes always gets its text
-  pub played_always : longest ≤ length out → (a ≡ played.Text (length (text_of file))) × (left ≡ text_of file ++ drop (length (text_of file)) out)
+  pub played_always : longest ≤ length out → (a ≡ Ok (length (text_of file))) × (left ≡ text_of file ++ drop (length (text_of file)) out)
   played_always h = played_long (omega (arith, text_fits file))
 
-pub played_only : (file out : List ℕ) (n : ℕ) (left : List ℕ) → IsPlayed file out (played.Refused n) left → n ≡ short_output
-played_only file out n left f = less (length out) (length (text_of file))
-    (λ h. ap (λ t. t.number) (ap told_played (played_short file out _ left f h).0))
-    (λ h. absurd (not_given (ap told_played (played_long file out _ left f h).0)))
+pub played_only : (file out : List ℕ) (e : Refusal) (left : List ℕ) → IsPlayed file out (Err e) left → e ≡ ShortOutput
+played_only file out e left f = less (length out) (length (text_of file))
+    (λ h. number_one e ShortOutput (ap (λ t. t.number) (ap told (played_short file out _ left f h).0)))
+    (λ h. absurd (not_given (ap told (played_long file out _ left f h).0)))
 
 -- a refusal's number is not 0, and it leaves the output as it was
-pub played_refused_leaves : (file out : List ℕ) (n : ℕ) (left : List ℕ) → IsPlayed file out (played.Refused n) left → (n ≢ 0) × (left ≡ out)
-played_refused_leaves file out n left f =
-    let e = played_only file out n left f in
-    (λ z. omega arith, (played_short file out _ left f ((played_5 file out _ left f).0 (ap played.Refused e))).1)
+pub played_refused_leaves : (file out : List ℕ) (e : Refusal) (left : List ℕ) → IsPlayed file out (Err e) left → (number_of e ≢ 0) × (left ≡ out)
+played_refused_leaves file out e left f =
+    (number_some e, (played_short file out _ left f ((played_5 file out _ left f).0 (ap Err (played_only file out e left f)))).1)

@@ -1,6 +1,6 @@
 -- A job's header: the scan over its cycles a turn at a time, and what the test of its sizes says.
 -- Assumes nothing.
-use Prim.Native.Nat.{ℕ, zero, suc, ◌+◌, ◌*◌, ◌-◌, ◌≤◌, ◌<◌}
+use Prim.Native.Nat.{ℕ, zero, suc, ◌+◌, ◌*◌, ◌≤◌, ◌<◌}
 use mathlib.Core.Path.{◌≡◌, refl, sym, ap, ◌∙◌}
 use mathlib.Core.Bool.{Bool, true, false, not, ◌||◌, ◌&&◌}
 use mathlib.Core.Logic.{◌⊎◌, inl, inr, ⊎_elim}
@@ -9,34 +9,29 @@ use native.Mathlib.Numerals.{add-one}
 use native.Mathlib.Omega.{arith}
 use borrow.Author.Tests.{ltb-false, eqb-true, not-false, lt-ltb, le-ltb, eq-eqb}
 use lib.ListN.{length, get_or}
+use Rattle.std.specs.List.{list_any, range_with_len}
 use lib.Dec.{ltb, eqb}
+use Rattle.std.specs.Prelude.{Result, Ok}
+use Rattle.paper.specs.declared.refusal.Refusal.{Refusal}
 use Rattle.paper.specs.Refusal.{short_job, wrong_header, wrong_cycle}
-use Rattle.paper.specs.Told.{given, refused}
+use Rattle.paper.specs.Told.{given, refused, told}
 use Rattle.paper.proofs.Telling.{given_one, not_given}
 use Rattle.paper.proofs.Cases.{split, less}
 use Rattle.paper.proofs.Either.{neither}
-use Rattle.paper.proofs.Left.{one_fewer, none_left}
 use Rattle.controller.specs.Cycle.{malformed}
-use Rattle.jobs.specs.Header.{word_at, cycle_at, pictures_in, set_in, wrong_count, wrong_sizes, wrong_cycles, job_of, header_of, told_header, IsHeader}
+use Rattle.jobs.specs.Header.{word_at, cycle_at, pictures_in, set_in, wrong_count, wrong_sizes, wrong_cycles, job_of, header_of, IsHeader}
 use Rattle.jobs.specs.Output.{Holds}
 use Rattle.jobs.specs.declared.header.Job.{Job}
-use Rattle.jobs.specs.declared.header.Header.{Header}
-use Rattle.jobs.specs.declared.header.Header.TheVariants.{Good}
 
 -- ---- the cycles, from i on
 
-module _ (file : List ℕ) (n i : ℕ) (h : i < n) where
-  pub scan_good : malformed (cycle_at file i).0 (cycle_at file i).1 ≡ false → wrong_cycles file i (n - i) ≡ wrong_cycles file (i + 1) (n - (i + 1))
-  unfolding wrong_cycles
-  scan_good e = rw (one_fewer i n h, e, add-one i)
-
-  pub scan_wrong : malformed (cycle_at file i).0 (cycle_at file i).1 ≡ true → wrong_cycles file i (n - i) ≡ true
-  unfolding wrong_cycles
-  scan_wrong e = rw (one_fewer i n h, e)
-
-pub scan_end : (file : List ℕ) (n i : ℕ) → n ≤ i → wrong_cycles file i (n - i) ≡ false
+-- looked for among their numbers
+pub scan_listed : (file : List ℕ) (i n : ℕ) → list_any (λ k. malformed (cycle_at file k).0 (cycle_at file k).1) (range_with_len i n) ≡ wrong_cycles file i n
 unfolding wrong_cycles
-scan_end file n i h = rw (none_left i n h)
+scan_listed file i zero = refl
+scan_listed file i (suc n) =
+    let e = scan_listed file (i + 1) n in
+    ap (λ b. malformed (cycle_at file i).0 (cycle_at file i).1 || b) (e ∙ ap (λ k. wrong_cycles file k n) (add-one i))
 
 -- one cycle more, and none
 pub scan_more : (file : List ℕ) (i n : ℕ) → wrong_cycles file i (suc n) ≡ (malformed (cycle_at file i).0 (cycle_at file i).1 || wrong_cycles file (suc i) n)
@@ -174,5 +169,5 @@ holds_by file j (good h s c e) f =
     let z = sizes_right _ _ _ _ _ s in
     rw (given_one (f ∙ e)) (record { few = z.few; two = counted_two (word_at file 4) z.counted; whole = z.whole })
 
-pub header_holds : (file : List ℕ) {a : Header} {j : Job} → IsHeader file a → a ≡ Good j → Holds file j
-header_holds file {j = j} q e = holds_by file j (way file) (ap told_header (sym e) ∙ q.tells)
+pub header_holds : (file : List ℕ) {a : Result Job Refusal} {j : Job} → IsHeader file a → a ≡ Ok j → Holds file j
+header_holds file {j = j} q e = holds_by file j (way file) (ap told (sym e) ∙ q.tells)

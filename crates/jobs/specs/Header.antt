@@ -1,15 +1,14 @@
 -- A job file: its header, its cycles and its pictures, and what is refused.
 -- Assumes nothing.
-use Rattle.std.specs.Prelude.{ℕ, zero, suc, ◌+◌, ◌*◌, ◌%◌, ◌≡◌, Bool, false, cond, not, ◌||◌, ◌&&◌, List, length, get_or, take, drop, ltb, eqb}
+use Rattle.std.specs.Prelude.{ℕ, zero, suc, ◌+◌, ◌*◌, ◌%◌, ◌≡◌, Bool, false, cond, not, ◌||◌, ◌&&◌, List, length, get_or, take, drop, ltb, eqb, Result}
 use Rattle.paper.specs.Refusal.{short_job, wrong_header, wrong_cycle}
-use Rattle.paper.specs.Told.{Told, given, refused}
+use Rattle.paper.specs.Told.{Told, given, refused, told}
+use Rattle.paper.specs.declared.refusal.Refusal.{Refusal}
 use Rattle.instructions.specs.declared.added.CommandSet.{CommandSet}
 use Rattle.instructions.specs.declared.added.CommandSet.TheVariants.{Old, New}
 use Rattle.controller.specs.Cycle.{malformed}
 use Rattle.controller.specs.Run.{BusCycle}
 use Rattle.jobs.specs.declared.header.Job.{Job}
-use Rattle.jobs.specs.declared.header.Header.{Header}
-use Rattle.jobs.specs.declared.header.Header.TheVariants.{Good, Refused}
 
 -- a 16-bit number, low byte first
 unfoldable pub word_at : List ℕ → ℕ → ℕ
@@ -58,11 +57,6 @@ header_of file =
     (cond (wrong_cycles file 0 (word_at file 0)) (refused wrong_cycle)
     (given (job_of file))))
 
--- an answer as the paper tells it
-abbrev pub told_header : Header → Told Job
-told_header (Good j) = given j
-told_header (Refused n) = refused n
-
 -- what read_header promises
-pub record IsHeader (file : List ℕ) (a : Header) : Type 0 where
-  pub tells : told_header a ≡ header_of file
+pub record IsHeader (file : List ℕ) (a : Result Job Refusal) : Type 0 where
+  pub tells : told a ≡ header_of file

@@ -3,3 +3,4 @@ pub mod Memory
 pub mod Text
 pub mod Play
 pub mod Output
+pub mod Texts

@@ -2,12 +2,8 @@
 -- Assumes nothing.
 use Rattle.std.specs.Prelude.{ℕ, ◌+◌, ◌*◌, ◌≤◌, ◌≡◌, cond, List, [], ◌++◌, length, eqb}
 use Rattle.std.proofs.lemmas.List.Edits.{sets}
-use Rattle.paper.specs.Sheet.{sheet0713}
 use Rattle.registers.specs.declared.Registers.{Registers}
-use Rattle.controller.specs.State.{State, step}
-use Rattle.jobs.specs.Header.{cycle_at}
 use Rattle.jobs.specs.Text.{field, flag, modify_flag, line_end, read_line, marked_line, refusal_line}
-use Rattle.jobs.specs.Play.{line_of, answer_at}
 use Rattle.jobs.specs.declared.header.Job.{Job}
 
 -- How far a text reaches as its parts count themselves: a number counts as 21 bytes, a space and the 20 digits that 64 bits can have.
@@ -46,15 +42,10 @@ pub record Holds (file : List ℕ) (j : Job) : Type 0 where
   pub two : j.pictures ≤ 2
   pub whole : length file ≡ 8 + 2 * j.cycles + 1188 * j.pictures
 
--- the line of cycle i by its kind and its answer taken apart, as the code asks: a refusal's, a data read's, a status read's, or none
+-- the line of cycle i by its kind and its answer taken apart: a refusal's, a data read's, a status read's, or none
 abbrev pub line_by : ℕ → ℕ → ℕ → ℕ → ℕ → ℕ → List ℕ
 line_by i kind number read byte fresh =
     cond (eqb number 0) (cond (eqb kind 3) (marked_line i byte (eqb fresh 1)) (cond (eqb read 0) [] (read_line i byte))) (refusal_line i number)
-
--- a turn: cycle i of a file from the state s, with the output o at `at`
-pub record Turned (file : List ℕ) (i : ℕ) (s : State) (o : List ℕ) (at : ℕ) (s' : State) (o' : List ℕ) (at' : ℕ) : Type 0 where
-  pub after : s' ≡ step sheet0713 s (cycle_at file i)
-  pub line : Put o at (line_of i (answer_at file i s)) o' at' line_most
 
 -- the end line from `on` on, and from SHL on
 abbrev pub last_fields : Registers → List ℕ

@@ -1,9 +1,10 @@
 -- The whole text of a job: each cycle's line, then `end`, then `update` if there is a wanted picture.
 -- Assumes nothing.
-use Rattle.std.specs.Prelude.{ℕ, zero, suc, ◌≡◌, Bool, cond, List, [], ◌++◌, length, drop, ltb, eqb}
+use Rattle.std.specs.Prelude.{ℕ, zero, suc, ◌≡◌, Bool, cond, List, [], ◌++◌, length, drop, ltb, eqb, Result}
 use Rattle.std.proofs.Math.Option.{Option, none, some}
 use Rattle.paper.specs.Refusal.{short_output}
-use Rattle.paper.specs.Told.{Told, given, refused}
+use Rattle.paper.specs.Told.{given, refused, told}
+use Rattle.paper.specs.declared.refusal.Refusal.{Refusal}
 use Rattle.paper.specs.Sheet.{sheet0713}
 use Rattle.controller.specs.Cycle.{Outcome, answer}
 use Rattle.controller.specs.State.{State, powered_up_in, step}
@@ -12,8 +13,6 @@ use Rattle.jobs.specs.Header.{cycle_at, picture2, header_of}
 use Rattle.jobs.specs.Memory.{start_memory}
 use Rattle.jobs.specs.Text.{read_line, marked_line, refusal_line, bad_line, end_line, update_line}
 use Rattle.jobs.specs.declared.header.Job.{Job}
-use Rattle.jobs.specs.declared.play.Played.{Played}
-use Rattle.jobs.specs.declared.play.Played.TheVariants.{Text, Refused}
 
 -- a read has a line, a data read's with its mark; whatever else was done has none
 abbrev pub byte_line : ℕ → Option ℕ → Option Bool → List ℕ
@@ -55,12 +54,7 @@ text_of file = text_by file (header_of file).number (header_of file).value
 abbrev pub longest : ℕ
 longest = 210000
 
--- an answer as the paper tells it
-abbrev pub told_played : Played → Told ℕ
-told_played (Text n) = given n
-told_played (Refused n) = refused n
-
 -- what play promises: the text's length, and the text in front of the output; or 5, and the output as it was
-pub record IsPlayed (file out : List ℕ) (a : Played) (left : List ℕ) : Type 0 where
-  pub tells : told_played a ≡ cond (ltb (length out) (length (text_of file))) (refused short_output) (given (length (text_of file)))
+pub record IsPlayed (file out : List ℕ) (a : Result ℕ Refusal) (left : List ℕ) : Type 0 where
+  pub tells : told a ≡ cond (ltb (length out) (length (text_of file))) (refused short_output) (given (length (text_of file)))
   pub leaves : left ≡ cond (ltb (length out) (length (text_of file))) out (text_of file ++ drop (length (text_of file)) out)

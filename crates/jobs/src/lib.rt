@@ -4,4 +4,4 @@
 pub mod header;
 pub mod memory;
 pub mod play;
-mod text;
+pub mod text;

@@ -1,22 +1,19 @@
-// Pieces of the player's text, put into a lent output from a place on. A byte past the output's end is counted and not
-// stored, so the same calls measure a text (on any output) and write it (on one that is long enough).
-ghost use Rattle.std.specs.Prelude.{◌≡◌, [], ◌∷◌, ◌+◌, ◌<◌, ◌≤◌};
-ghost use Rattle.jobs.specs.Text.{digit, hex, decimal_up_to, field, newline, flag, modify_flag, read_line, mark_letter, marked_line, refusal_line, bad_line, three_fields, line_end, end_line, update_line};
-ghost use Rattle.jobs.specs.Output.{Put, text_most, line_most, flag_fields, last_fields};
+// The player's text, put into a lent output from its start. A byte past the output's end is counted and not stored, so the same
+// calls measure a text (on any output) and write it (on one that is long enough). Not by `write!`: what std promises of it leaves
+// open when a write succeeds, and no piece of a text is ever refused.
+ghost use Rattle.std.specs.Prelude.{◌≡◌, [], ◌∷◌, ◌++◌, ◌+◌, ◌<◌, ◌≤◌, length};
+ghost use Rattle.jobs.specs.Text.{digit, hex, decimal_up_to, field, flag, modify_flag, read_line, mark_letter, marked_line, refusal_line, bad_line, three_fields, line_end, end_line, update_line};
+ghost use Rattle.jobs.specs.Output.{text_most, line_most};
+ghost use Rattle.jobs.specs.Texts.{Puts};
 
 use instructions::added::is_new;
 use registers::{Beside, ModifyRead, Registers};
 
-// One byte.
-fn put_byte(out: &mut [u8], at: usize, byte: u8) -> usize
-    requires { at < text_most }
-    ensures { Put out.old at (byte ∷ []) out.new result 1 }
-{
-    if at < out.len() {
-        out[at] = byte;
-        return at + 1;
-    }
-    at + 1
+// An output, and the place past what is put into it.
+#[derive(Drop)]
+pub(crate) struct Text<'a> {
+    pub(crate) out: &'a mut [u8],
+    pub(crate) at: usize,
 }
 
 // The character of a digit below 16.
@@ -24,53 +21,23 @@ fn digit(d: usize) -> u8
     requires { d < 16 }
     ensures { result ≡ digit d }
 {
-    if d < 10 { 48 + d as u8 } else { 87 + d as u8 }
-}
-
-// The decimal digits of n, where there are at most `most`.
-fn put_digits(out: &mut [u8], at: usize, n: usize, most: usize) -> usize
-    requires { at + most ≤ text_most }
-    ensures { Put out.old at (decimal_up_to most n) out.new result most }
-{
-    if most == 0 {
-        return at;
-    }
-    if n < 10 {
-        return put_byte(out, at, digit(n));
-    }
-    let next = put_digits(out, at, n / 10, most - 1);
-    put_byte(out, next, digit(n % 10))
-}
-
-// A space and a number.
-fn put_field(out: &mut [u8], at: usize, n: usize) -> usize
-    requires { at + 21 ≤ text_most }
-    ensures { Put out.old at (field n) out.new result 21 }
-{
-    let a = put_byte(out, at, b' ');
-    put_digits(out, a, n, 20)
+    b"0123456789abcdef"[d]
 }
 
 // A byte as two hex digits.
-fn put_hex(out: &mut [u8], at: usize, byte: u8) -> usize
-    requires { at + 2 ≤ text_most }
-    ensures { Put out.old at (hex byte) out.new result 2 }
+#[tactic(auto, unfolding(crate::specs::Text::hex))]
+pub fn hex(byte: u8) -> [u8; 2]
+    ensures { result ≡ hex byte }
 {
-    let b = byte as usize;
-    let a = put_byte(out, at, digit(b / 16));
-    put_byte(out, a, digit(b % 16))
+    let b = usize::from(byte);
+    [digit(b / 16), digit(b % 16)]
 }
 
-// The line of a status read.
-pub(crate) fn put_read(out: &mut [u8], at: usize, i: usize, byte: u8) -> usize
-    requires { at + 26 ≤ text_most }
-    ensures { Put out.old at (read_line i byte) out.new result 26 }
+// Whether modify-read is on.
+fn modifying(mode: ModifyRead) -> bool
+    ensures { flag result ≡ modify_flag mode }
 {
-    let a1 = put_byte(out, at, b'r');
-    let a2 = put_field(out, a1, i);
-    let a3 = put_byte(out, a2, b' ');
-    let a4 = put_hex(out, a3, byte);
-    put_byte(out, a4, b'\n')
+    mode != ModifyRead::Off
 }
 
 // The letter of a mark.
@@ -80,149 +47,166 @@ fn mark_letter(fresh: bool) -> u8
     if fresh { b'f' } else { b's' }
 }
 
-// A space, the letter of a mark, and the end of the line.
-fn put_mark(out: &mut [u8], at: usize, fresh: bool) -> usize
-    requires { at + 3 ≤ text_most }
-    ensures { Put out.old at (32 ∷ mark_letter fresh ∷ newline) out.new result 3 }
-{
-    put_letters(out, at, b' ', mark_letter(fresh), b'\n')
-}
-
-// The line of a data read.
-pub(crate) fn put_data_read(out: &mut [u8], at: usize, i: usize, byte: u8, fresh: bool) -> usize
-    requires { at + 28 ≤ text_most }
-    ensures { Put out.old at (marked_line i byte fresh) out.new result 28 }
-{
-    let a1 = put_byte(out, at, b'r');
-    let a2 = put_field(out, a1, i);
-    let a3 = put_byte(out, a2, b' ');
-    let a4 = put_hex(out, a3, byte);
-    put_mark(out, a4, fresh)
-}
-
-// The line of a refused cycle.
-pub(crate) fn put_refusal(out: &mut [u8], at: usize, i: usize, number: u8) -> usize
-    requires { at + line_most ≤ text_most }
-    ensures { Put out.old at (refusal_line i number) out.new result line_most }
-{
-    let a1 = put_byte(out, at, b'x');
-    let a2 = put_field(out, a1, i);
-    let a3 = put_field(out, a2, number as usize);
-    put_byte(out, a3, b'\n')
-}
-
-// Three letters.
-fn put_letters(out: &mut [u8], at: usize, a: u8, b: u8, c: u8) -> usize
-    requires { at + 3 ≤ text_most }
-    ensures { Put out.old at (a ∷ b ∷ c ∷ []) out.new result 3 }
-{
-    let a1 = put_byte(out, at, a);
-    let a2 = put_byte(out, a1, b);
-    put_byte(out, a2, c)
-}
-
-// The one line of a refused file.
-pub(crate) fn put_bad(out: &mut [u8], at: usize, number: u8) -> usize
-    requires { at + 25 ≤ text_most }
-    ensures { Put out.old at (bad_line number) out.new result 25 }
-{
-    let a1 = put_letters(out, at, b'b', b'a', b'd');
-    let a2 = put_field(out, a1, number as usize);
-    put_byte(out, a2, b'\n')
-}
-
-// 0 or 1.
-fn flag(f: bool) -> usize
-    ensures { result ≡ flag f }
-{
-    if f { 1 } else { 0 }
-}
-
-// 0 or 1, after a space.
-fn put_flag(out: &mut [u8], at: usize, f: bool) -> usize
-    requires { at + 21 ≤ text_most }
-    ensures { Put out.old at (field (flag f)) out.new result 21 }
-{
-    put_field(out, at, flag(f))
-}
-
-// 1 while modify-read is on.
-fn modify_flag(mode: ModifyRead) -> usize
-    ensures { result ≡ modify_flag mode }
-{
-    match mode {
-        ModifyRead::Off => 0,
-        ModifyRead::On(_) => 1,
+impl<'a> Text<'a> {
+    fn byte(&mut self, byte: u8)
+        requires { self.old.at < text_most }
+        ensures { Puts self.old (byte ∷ []) self.new 1 }
+    {
+        if self.at < self.out.len() {
+            self.out[self.at] = byte;
+        }
+        self.at += 1;
     }
-}
 
-// The new command set's three numbers, and the end of the line.
-fn put_three(out: &mut [u8], at: usize, beside: Beside) -> usize
-    requires { at + 64 ≤ text_most }
-    ensures { Put out.old at (three_fields beside) out.new result 64 }
-{
-    let a1 = put_field(out, at, beside.com0 as usize);
-    let a2 = put_field(out, a1, beside.duty as usize);
-    let a3 = put_field(out, a2, beside.inversion as usize);
-    put_byte(out, a3, b'\n')
-}
-
-// How the end line ends: with the three in the new set.
-fn put_line_end(out: &mut [u8], at: usize, beside: Beside) -> usize
-    requires { at + 64 ≤ text_most }
-    ensures { Put out.old at (line_end beside) out.new result 64 }
-{
-    let set = beside.set;
-    if is_new(set) {
-        return put_three(out, at, beside);
+    fn letters(&mut self, letters: &[u8])
+        requires { self.old.at + length letters.now ≤ text_most }
+        ensures { Puts self.old letters.now self.new (length letters.now) }
+    {
+        for letter in letters {
+            self.byte(*letter);
+        }
     }
-    put_byte(out, at, b'\n')
-}
 
-// The end line from `on` on.
-fn put_last(out: &mut [u8], at: usize, registers: Registers) -> usize
-    requires { at + 127 ≤ text_most }
-    ensures { Put out.old at (last_fields registers) out.new result 127 }
-{
-    let mode = registers.modify_read;
-    let beside = registers.beside;
-    let a1 = put_flag(out, at, registers.on);
-    let a2 = put_field(out, a1, modify_flag(mode));
-    let a3 = put_field(out, a2, registers.contrast as usize);
-    put_line_end(out, a3, beside)
-}
+    // The decimal digits of n, where there are at most `most`.
+    fn digits(&mut self, n: usize, most: usize)
+        requires { self.old.at + most ≤ text_most }
+        ensures { Puts self.old (decimal_up_to most n) self.new most }
+    {
+        if most == 0 {
+            return;
+        }
+        if n >= 10 {
+            self.digits(n / 10, most - 1);
+        }
+        self.byte(digit(n % 10));
+    }
 
-// The end line's flags, and the numbers after them.
-fn put_flags(out: &mut [u8], at: usize, registers: Registers) -> usize
-    requires { at + 211 ≤ text_most }
-    ensures { Put out.old at (flag_fields registers) out.new result 211 }
-{
-    let a1 = put_flag(out, at, registers.shl);
-    let a2 = put_flag(out, a1, registers.adc);
-    let a3 = put_flag(out, a2, registers.reverse);
-    let a4 = put_flag(out, a3, registers.entire);
-    put_last(out, a4, registers)
-}
+    // A space and a number.
+    #[tactic(auto, unfolding(crate::specs::Text::field, crate::specs::Text::decimal))]
+    fn field(&mut self, n: usize)
+        requires { self.old.at + 21 ≤ text_most }
+        ensures { Puts self.old (field n) self.new 21 }
+    {
+        self.byte(b' ');
+        self.digits(n, 20);
+    }
 
-// The line after the cycles.
-pub(crate) fn put_end(out: &mut [u8], at: usize, registers: Registers) -> usize
-    requires { at + 277 ≤ text_most }
-    ensures { Put out.old at (end_line registers) out.new result 277 }
-{
-    let a1 = put_letters(out, at, b'e', b'n', b'd');
-    let a2 = put_field(out, a1, registers.page as usize);
-    let a3 = put_field(out, a2, registers.column.0 as usize);
-    let a4 = put_field(out, a3, registers.start_line as usize);
-    put_flags(out, a4, registers)
-}
+    // A byte as two hex digits.
+    #[tactic(auto, unfolding(crate::specs::Text::hex))]
+    fn hex(&mut self, byte: u8)
+        requires { self.old.at + 2 ≤ text_most }
+        ensures { Puts self.old (hex byte) self.new 2 }
+    {
+        self.letters(&hex(byte));
+    }
 
-// The line of the update's length.
-pub(crate) fn put_update(out: &mut [u8], at: usize, n: usize) -> usize
-    requires { at + 28 ≤ text_most }
-    ensures { Put out.old at (update_line n) out.new result 28 }
-{
-    let a1 = put_letters(out, at, b'u', b'p', b'd');
-    let a2 = put_letters(out, a1, b'a', b't', b'e');
-    let a3 = put_field(out, a2, n);
-    put_byte(out, a3, b'\n')
+    // How the line of a read begins.
+    fn byte_read(&mut self, i: usize, byte: u8)
+        requires { self.old.at + 25 ≤ text_most }
+        ensures { Puts self.old (114 ∷ (field i ++ (32 ∷ hex byte))) self.new 25 }
+    {
+        self.byte(b'r');
+        self.field(i);
+        self.byte(b' ');
+        self.hex(byte);
+    }
+
+    // The line of a status read.
+    pub(crate) fn read(&mut self, i: usize, byte: u8)
+        requires { self.old.at + 26 ≤ text_most }
+        ensures { Puts self.old (read_line i byte) self.new 26 }
+    {
+        self.byte_read(i, byte);
+        self.byte(b'\n');
+    }
+
+    // The line of a data read.
+    pub(crate) fn data_read(&mut self, i: usize, byte: u8, fresh: bool)
+        requires { self.old.at + 28 ≤ text_most }
+        ensures { Puts self.old (marked_line i byte fresh) self.new 28 }
+    {
+        self.byte_read(i, byte);
+        self.letters(&[b' ', mark_letter(fresh), b'\n']);
+    }
+
+    // The line of a refused cycle.
+    pub(crate) fn refusal(&mut self, i: usize, number: u8)
+        requires { self.old.at + line_most ≤ text_most }
+        ensures { Puts self.old (refusal_line i number) self.new line_most }
+    {
+        self.byte(b'x');
+        self.field(i);
+        self.field(number as usize);
+        self.byte(b'\n');
+    }
+
+    // The one line of a refused file.
+    pub(crate) fn bad(&mut self, number: u8)
+        requires { self.old.at + 25 ≤ text_most }
+        ensures { Puts self.old (bad_line number) self.new 25 }
+    {
+        self.letters(b"bad");
+        self.field(number as usize);
+        self.byte(b'\n');
+    }
+
+    // 0 or 1, after a space.
+    fn flag(&mut self, f: bool)
+        requires { self.old.at + 21 ≤ text_most }
+        ensures { Puts self.old (field (flag f)) self.new 21 }
+    {
+        self.field(usize::from(f));
+    }
+
+    // The new command set's three numbers, and the end of the line.
+    fn three(&mut self, beside: Beside)
+        requires { self.old.at + 64 ≤ text_most }
+        ensures { Puts self.old (three_fields beside) self.new 64 }
+    {
+        self.field(beside.com0 as usize);
+        self.field(beside.duty as usize);
+        self.field(beside.inversion as usize);
+        self.byte(b'\n');
+    }
+
+    // How the end line ends: with the three in the new set.
+    fn line_end(&mut self, beside: Beside)
+        requires { self.old.at + 64 ≤ text_most }
+        ensures { Puts self.old (line_end beside) self.new 64 }
+    {
+        if is_new(beside.set) {
+            self.three(beside);
+        } else {
+            self.byte(b'\n');
+        }
+    }
+
+    // The line after the cycles.
+    pub(crate) fn end(&mut self, registers: Registers)
+        requires { self.old.at + 277 ≤ text_most }
+        ensures { Puts self.old (end_line registers) self.new 277 }
+    {
+        self.letters(b"end");
+        self.field(registers.page as usize);
+        self.field(registers.column.0 as usize);
+        self.field(registers.start_line as usize);
+        self.flag(registers.shl);
+        self.flag(registers.adc);
+        self.flag(registers.reverse);
+        self.flag(registers.entire);
+        self.flag(registers.on);
+        self.flag(modifying(registers.modify_read));
+        self.field(registers.contrast as usize);
+        self.line_end(registers.beside);
+    }
+
+    // The line of the update's length.
+    pub(crate) fn update(&mut self, n: usize)
+        requires { self.old.at + 28 ≤ text_most }
+        ensures { Puts self.old (update_line n) self.new 28 }
+    {
+        self.letters(b"update");
+        self.field(n);
+        self.byte(b'\n');
+    }
 }

@@ -1,36 +1,34 @@
--- A row is found byte by byte: it begins with one byte, goes on with a byte of the same class, and ends before one of another, where
--- the next begins.
+-- A row begins with one byte, goes on with bytes of the same class, and ends before the first of another, where the next begins.
 -- Assumes nothing.
-use Prim.Native.Nat.{ℕ, ◌+◌, ◌≤◌, ◌<◌}
+use Prim.Native.Nat.{ℕ, ◌+◌, ◌-◌, ◌≤◌, ◌<◌}
 use mathlib.Core.Path.{◌≡◌, ◌∙◌, ap, sym}
 use mathlib.Core.Logic.{◌≢◌}
 use native.Mathlib.Omega.{arith}
+use Rattle.std.specs.Prelude.{Option, Some, None}
+use Rattle.std.specs.Option.{MatchOption, unwrap_or}
 use Rattle.paper.proofs.Cases.{less}
 use Rattle.instructions.specs.Read.{class_of}
-use Rattle.instructions.specs.Class.{IsClass}
 use Rattle.listing.specs.Row.{Begins, Alike, IsRow}
 
-pub alike_first : (b : ℕ) → Alike b b
-alike_first b = record { rising = omega arith; same = λ c low high. ap class_of (omega arith) }
+-- every byte behind the first, up to a last one, is of its class
+abbrev pub On : ℕ → ℕ → Type 0
+On first last = (b : ℕ) → first ≤ b → b < last → class_of (b + 1) ≡ class_of first
 
-more : (first last : ℕ) → Alike first last → class_of (last + 1) ≡ class_of first → Alike first (last + 1)
-more first last a e =
+alike : (first last : ℕ) → first ≤ last → On first last → Alike first last
+alike first last h f =
     record {
-      rising = omega (arith, a.rising);
-      same = λ c low high. less c (last + 1) (λ h. a.same c low (omega arith)) (λ h. ap class_of (omega arith) ∙ e);
+      rising = h;
+      same = λ b low high.
+          less first b
+          (λ l. let e : b ≡ b - 1 + 1 = omega arith in ap class_of e ∙ f (b - 1) (omega arith) (omega arith))
+          (λ l. ap class_of (omega arith));
     }
 
--- by what is answered of the first byte and of the one behind the last
-module _ {first last class next : ℕ} (f : IsClass first class) (n : IsClass (last + 1) next) (a : Alike first last) where
-  pub alike_more : next ≡ class → Alike first (last + 1)
-  alike_more e = more first last a (sym n.tells ∙ e ∙ f.tells)
-
-  pub row_ends : Begins first → next ≢ class → IsRow first last
-  row_ends b ne = record { begins = b; alike = a; ends = λ h e. ne (n.tells ∙ e ∙ sym f.tells) }
-
--- the last byte of all ends its row
-pub row_last : {first last : ℕ} → Begins first → Alike first last → 255 ≤ last → IsRow first last
-row_last b a h = record { begins = b; alike = a; ends = λ l. absurd (omega arith) }
+-- the last byte before one of another class, or else the last byte of all
+pub row_found : (first : ℕ) (found : Option ℕ) → Begins first → first ≤ 255
+    → MatchOption found (On first 255) (λ b. (first ≤ b) × (b < 255) × (class_of (b + 1) ≢ class_of first) × On first b) → IsRow first (unwrap_or found 255)
+row_found first None b h f = record { begins = b; alike = alike first 255 h f; ends = λ l. absurd (omega arith) }
+row_found first (Some last) b h f = record { begins = b; alike = alike first last f.0 f.3; ends = λ l. f.2 }
 
 -- the first byte of all begins a row
 pub first_begins : Begins 0

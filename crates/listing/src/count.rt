@@ -19,10 +19,8 @@ pub(crate) fn assigned_bytes() -> usize
     ensures { result ≡ 161 }
 {
     let mut n = 0;
-    let mut byte: usize = 0;
-    while byte < 256 {
-        n += one_if_assigned(byte as u8);
-        byte += 1;
+    for byte in 0..=255 {
+        n += one_if_assigned(byte);
     }
     n
 }

@@ -42,6 +42,7 @@ fn write_assigned(rt: &impl Print, first: u8, last: u8) -> bool
 // Every row's line, as far as they can be written.
 fn write_rows(rt: &impl Print) -> bool {
     let mut next: usize = 0;
+    // A row may have many bytes, so the place moves on by a row and not by one.
     while next < 256 {
         let first = next as u8;
         let last = row_end(first);

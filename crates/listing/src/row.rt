@@ -9,12 +9,7 @@ pub(crate) fn row_end(first: u8) -> u8
     ensures { IsRow first result }
 {
     let class = class_of(first);
-    let mut last = first;
-    while last < 255 {
-        if class_of(last + 1) != class {
-            return last;
-        }
-        last += 1;
-    }
-    last
+    (first..255)
+        .find(|last| class_of(*last + 1) != class)
+        .unwrap_or(255)
 }

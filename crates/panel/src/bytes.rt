@@ -1,41 +1,17 @@
 // The KS0713's instructions by number, read and written.
-ghost use Rattle.std.specs.Prelude.{◌≡◌};
 ghost use Rattle.paper.specs.Sheet.{sheet0713};
-ghost use Rattle.face.specs.Bytes.{told_named, ReadOn, ReadOut, WrittenIf, WriteOut};
+ghost use Rattle.face.specs.Bytes.{ReadOut, WriteOut};
 
-use face::bytes::{Named, named_by, tell_read, tell_written};
-use instructions::read::{Reading, read_instruction};
-use instructions::write::{Writing, write_instruction};
-use paper::refusal::{OUT_OF_RANGE, OUTSIDE_FIELD};
-use state::packed::awaited_of;
-
-// What is named, written.
-fn write_named(instruction: Named) -> Writing
-    ensures { WrittenIf sheet0713 (told_named instruction) result }
-{
-    match instruction {
-        Named::Known(known) => write_instruction(known),
-        Named::Unknown => Writing::Unwritten(OUTSIDE_FIELD),
-    }
-}
+use face::bytes::{read_by, tell_read, write_by};
+use face::value::tell_value;
+use paper::sheet::Ks0713;
 
 // Writes an instruction by its number and value as a byte. Refuses with 6.
 #[unsafe(no_mangle)]
 pub extern "C" fn panel_write_instruction(number: u8, value: u8, byte: &mut u8) -> u8
     ensures { WriteOut sheet0713 number value byte.old byte.new result }
 {
-    tell_written(write_named(named_by(number, value)), byte)
-}
-
-// One byte, with what is awaited by its number.
-#[tactic(auto, using(paper::proofs::Tests::tests))]
-fn read_on(awaited: u8, byte: u8) -> Reading
-    ensures { ReadOn sheet0713 awaited byte result }
-{
-    if 5 < awaited {
-        return Reading::Unread(OUT_OF_RANGE);
-    }
-    read_instruction(awaited_of(awaited), byte)
+    tell_value(write_by::<Ks0713>(number, value), byte)
 }
 
 // Reads one byte as an instruction's number and value. Refuses with 2, 4.
@@ -48,5 +24,5 @@ pub extern "C" fn panel_read_instruction(
 ) -> u8
     ensures { ReadOut sheet0713 awaited byte (number.old, value.old) (number.new, value.new) result }
 {
-    tell_read(read_on(awaited, byte), number, value)
+    tell_read(read_by::<Ks0713>(awaited, byte), number, value)
 }

@@ -1,7 +1,9 @@
 // Two pictures of the KS0713, or one: the first difference, and the streams that show what is wanted.
 ghost use Rattle.face.specs.Pictures.{FirstOut, LengthOut, UpdateOut, GroupOut, RedrawOut};
 
-use face::pictures::{tell_count, tell_found};
+use face::pictures::tell_found;
+use face::value::tell_value;
+use paper::sheet::Ks0713;
 use planner::first::first_difference;
 use planner::group::page_group;
 use planner::length::update_length;
@@ -21,7 +23,12 @@ pub extern "C" fn panel_first_difference(
     ensures { FirstOut 132 recorded.now wanted.now (found.old, page.old, column.old)
         (found.new, page.new, column.new) result }
 {
-    tell_found(first_difference(recorded, wanted), found, page, column)
+    tell_found(
+        first_difference::<Ks0713>(recorded, wanted),
+        found,
+        page,
+        column,
+    )
 }
 
 // How many bytes the update has. Refuses with 1.
@@ -29,7 +36,7 @@ pub extern "C" fn panel_first_difference(
 pub extern "C" fn panel_update_length(recorded: &[u8], wanted: &[u8], count: &mut usize) -> u8
     ensures { LengthOut 132 recorded.now wanted.now count.old count.new result }
 {
-    tell_count(update_length(recorded, wanted), count)
+    tell_value(update_length::<Ks0713>(recorded, wanted), count)
 }
 
 // The update's bytes and kinds, and how many. Refuses with 1, 5.
@@ -44,7 +51,7 @@ pub extern "C" fn panel_update(
     ensures { UpdateOut 132 recorded.now wanted.now out.old kinds.old count.old
         out.new kinds.new count.new result }
 {
-    tell_count(update(recorded, wanted, out, kinds), count)
+    tell_value(update::<Ks0713>(recorded, wanted, out, kinds), count)
 }
 
 // One page's group of the update: its bytes and kinds, and how many. Refuses with 1, 6, 5.
@@ -60,7 +67,10 @@ pub extern "C" fn panel_page_group(
     ensures { GroupOut 132 recorded.now wanted.now page out.old kinds.old count.old
         out.new kinds.new count.new result }
 {
-    tell_count(page_group(recorded, wanted, page, out, kinds), count)
+    tell_value(
+        page_group::<Ks0713>(recorded, wanted, page, out, kinds),
+        count,
+    )
 }
 
 // The redraw's bytes and kinds, and how many. Refuses with 1, 6, 5.
@@ -75,5 +85,5 @@ pub extern "C" fn panel_redraw(
     ensures { RedrawOut 132 wanted.now contrast out.old kinds.old count.old
         out.new kinds.new count.new result }
 {
-    tell_count(redraw(wanted, contrast, out, kinds), count)
+    tell_value(redraw::<Ks0713>(wanted, contrast, out, kinds), count)
 }

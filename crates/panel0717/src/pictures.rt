@@ -1,12 +1,14 @@
 // Two pictures of the KS0717, or one: the first difference, and the streams that show what is wanted.
 ghost use Rattle.face.specs.Pictures.{FirstOut, LengthOut, UpdateOut, GroupOut, RedrawOut};
 
-use face::pictures::{tell_count, tell_found};
-use planner::first::first_difference_ks0717;
-use planner::group::page_group_ks0717;
-use planner::length::update_length_ks0717;
-use planner::redraw::redraw_ks0717;
-use planner::update::update_ks0717;
+use face::pictures::tell_found;
+use face::value::tell_value;
+use paper::sheet::Ks0717;
+use planner::first::first_difference;
+use planner::group::page_group;
+use planner::length::update_length;
+use planner::redraw::redraw;
+use planner::update::update;
 
 // The first differing byte: `found` 1 with its page and column, or `found` 0 where the pictures are the same; then page and
 // column stay. Refuses with 1.
@@ -22,7 +24,7 @@ pub extern "C" fn panel0717_first_difference(
         (found.new, page.new, column.new) result }
 {
     tell_found(
-        first_difference_ks0717(recorded, wanted),
+        first_difference::<Ks0717>(recorded, wanted),
         found,
         page,
         column,
@@ -34,7 +36,7 @@ pub extern "C" fn panel0717_first_difference(
 pub extern "C" fn panel0717_update_length(recorded: &[u8], wanted: &[u8], count: &mut usize) -> u8
     ensures { LengthOut 100 recorded.now wanted.now count.old count.new result }
 {
-    tell_count(update_length_ks0717(recorded, wanted), count)
+    tell_value(update_length::<Ks0717>(recorded, wanted), count)
 }
 
 // The update's bytes and kinds, and how many. Refuses with 1, 5.
@@ -49,7 +51,7 @@ pub extern "C" fn panel0717_update(
     ensures { UpdateOut 100 recorded.now wanted.now out.old kinds.old count.old
         out.new kinds.new count.new result }
 {
-    tell_count(update_ks0717(recorded, wanted, out, kinds), count)
+    tell_value(update::<Ks0717>(recorded, wanted, out, kinds), count)
 }
 
 // One page's group of the update: its bytes and kinds, and how many. Refuses with 1, 6, 5.
@@ -65,7 +67,10 @@ pub extern "C" fn panel0717_page_group(
     ensures { GroupOut 100 recorded.now wanted.now page out.old kinds.old count.old
         out.new kinds.new count.new result }
 {
-    tell_count(page_group_ks0717(recorded, wanted, page, out, kinds), count)
+    tell_value(
+        page_group::<Ks0717>(recorded, wanted, page, out, kinds),
+        count,
+    )
 }
 
 // The redraw's bytes and kinds, and how many. Refuses with 1, 6, 5.
@@ -80,5 +85,5 @@ pub extern "C" fn panel0717_redraw(
     ensures { RedrawOut 100 wanted.now contrast out.old kinds.old count.old
         out.new kinds.new count.new result }
 {
-    tell_count(redraw_ks0717(wanted, contrast, out, kinds), count)
+    tell_value(redraw::<Ks0717>(wanted, contrast, out, kinds), count)
 }

@@ -23,3 +23,12 @@ or_left a b e = (neither a b e).0
 
 pub or_right : (a b : Bool) → (a || b) ≡ false → b ≡ false
 or_right a b e = (neither a b e).1
+
+-- tests in a row, and one with none
+pub or_row : (a b c : Bool) → (a || b) || c ≡ a || (b || c)
+or_row true b c = refl
+or_row false b c = refl
+
+pub or_none : (a : Bool) → a || false ≡ a
+or_none true = refl
+or_none false = refl

@@ -8,4 +8,4 @@ pub mod Listed
 pub mod Telling
 pub mod Answering
 pub mod Tests
-pub mod Sensible
+pub mod Refusing

@@ -1,5 +1,6 @@
 pub mod Refusal
 pub mod Told
+pub mod Kind
 pub mod Sheet
 pub mod Answers
 pub mod Over

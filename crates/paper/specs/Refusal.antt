@@ -1,6 +1,8 @@
 -- The number that a refusal carries, by name, in the order of document 01's table, then by order. No refusal is 0.
 -- Assumes nothing.
 use Rattle.std.specs.Prelude.{ℕ}
+use Rattle.paper.specs.declared.refusal.Refusal.{Refusal}
+use Rattle.paper.specs.declared.refusal.Refusal.TheVariants.{WrongSize, OutOfRange, PinLow, Unassigned, ShortOutput, OutsideField, ShortJob, WrongHeader, WrongCycle, NoText, AwaitedAtSwitch}
 
 -- a picture, memory or frame buffer is not nine pages
 abbrev pub wrong_size : ℕ
@@ -45,3 +47,17 @@ no_text = 11
 -- order 13: a byte is awaited at a switch of the command set
 abbrev pub awaited_at_switch : ℕ
 awaited_at_switch = 13
+
+-- the number of each
+abbrev pub number_of : Refusal → ℕ
+number_of WrongSize = wrong_size
+number_of OutOfRange = out_of_range
+number_of PinLow = pin_low
+number_of Unassigned = unassigned
+number_of ShortOutput = short_output
+number_of OutsideField = outside_field
+number_of ShortJob = short_job
+number_of WrongHeader = wrong_header
+number_of WrongCycle = wrong_cycle
+number_of NoText = no_text
+number_of AwaitedAtSwitch = awaited_at_switch

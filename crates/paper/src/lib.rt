@@ -1,5 +1,7 @@
-// The ground floor: what a refusal's number means, and what differs from data sheet to data sheet. Whatever knows the chip looks down on it.
+// The ground floor: refusals and their numbers, the kinds of cycles, and what differs from chip to chip. Whatever knows the chip looks
+// down on it.
 #![tactic(auto)]
 
+pub mod kind;
 pub mod refusal;
 pub mod sheet;

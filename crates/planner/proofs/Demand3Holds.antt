@@ -12,10 +12,11 @@ use native.Mathlib.Omega.{arith}
 use lib.Dec.{lit≤, ltb, eqb}
 use borrow.Author.Tests.{eqb-true, ne_eqb, ltb-false}
 use lib.ListN.{length, take, drop, replicate}
+use Rattle.std.specs.Prelude.{Ok}
 use Rattle.paper.specs.Told.{given}
 use Rattle.paper.specs.Sheet.{Sensible, sheet0713, sheet0717}
 use Rattle.paper.specs.declared.sheet.Sheet.{Sheet}
-use Rattle.paper.proofs.Sensible.{sensible0713, sensible0717}
+use Rattle.paper.specs.Sheet.{sensible0713, sensible0717}
 use Rattle.paper.proofs.Telling.{given_one, not_given}
 use Rattle.paper.proofs.Threefold.{threefold_0}
 use Rattle.registers.specs.Registers.{PoweredUp}
@@ -38,7 +39,6 @@ use Rattle.streams.proofs.Redrawing.{redraw_no_read, redraw_has_write, redraw_ri
 use Rattle.planner.specs.Pictures.{misfit}
 use Rattle.planner.specs.Sent.{kind_of, byte_of, too_short, Sent, redraw_refusal, IsUpdate, IsRedraw}
 use Rattle.planner.specs.Demand3.{PinHigh, Holding, played, pairs, Updates, Redraws, Demand3}
-use Rattle.planner.specs.declared.count.Count.TheVariants.{Bytes}
 use Rattle.planner.proofs.ShutOuts.{bytes_out, update_not_refused, redraw_not_refused}
 
 -- ---- the calls: what they put into their outputs is the stream
@@ -48,7 +48,7 @@ unfolding pairs
 pairs_are [] x y = refl
 pairs_are (c ∷ s) x y = ap (λ l. c ∷ l) (pairs_are s x y)
 
-module _ {number : ℕ} {s : List BusCycle} {out kinds : List ℕ} {n : ℕ} {out' kinds' : List ℕ} (sent : Sent number s out kinds (Bytes n) out' kinds') where
+module _ {number : ℕ} {s : List BusCycle} {out kinds : List ℕ} {n : ℕ} {out' kinds' : List ℕ} (sent : Sent number s out kinds (Ok n) out' kinds') where
   sent_by : (t : Bool) → eqb number 0 ≡ t → (number ≡ 0) × (pairs n kinds' out' ≡ s)
   sent_by true e =
       let count : n ≡ length s = given_one (sent.tells ∙ rw e refl) in
@@ -142,7 +142,7 @@ module _ (k : Sheet) (g : Sensible k) where
       }
 
   pub sent_updates : (r : Registers) (m recorded wanted out kinds : List ℕ) (n : ℕ) (out' kinds' : List ℕ) → Holding k r m recorded
-      → IsUpdate k.width recorded wanted out kinds (Bytes n) out' kinds' → Updates k r m recorded wanted (pairs n kinds' out')
+      → IsUpdate k.width recorded wanted out kinds (Ok n) out' kinds' → Updates k r m recorded wanted (pairs n kinds' out')
   sent_updates r m recorded wanted out kinds n out' kinds' h sent =
       subst (Updates k r m recorded wanted) (sym (sent_is sent).1) (update_updates r m recorded wanted h)
 
@@ -186,7 +186,7 @@ module _ (k : Sheet) (g : Sensible k) where
         }
 
     pub sent_redraws : (r : Registers) (m wanted : List ℕ) (contrast : ℕ) (out kinds : List ℕ) (n : ℕ) (out' kinds' : List ℕ) → PinHigh k r m
-        → IsRedraw k.width wanted contrast out kinds (Bytes n) out' kinds' → Redraws k r m wanted contrast (pairs n kinds' out')
+        → IsRedraw k.width wanted contrast out kinds (Ok n) out' kinds' → Redraws k r m wanted contrast (pairs n kinds' out')
     sent_redraws r m wanted contrast out kinds n out' kinds' h sent =
         subst (Redraws k r m wanted contrast) (sym (sent_is sent).1) (redraw_redraws r m wanted contrast h (contrast_small k.width wanted contrast out kinds (sent_is sent).0))
 
@@ -194,13 +194,13 @@ module _ (k : Sheet) (g : Sensible k) where
 
     -- after any cycles that leave the pin high
     pub then_redraw : (r : Registers) (m wanted : List ℕ) (contrast : ℕ) (out kinds : List ℕ) (n : ℕ) (out' kinds' : List ℕ) (cycles : List BusCycle)
-        → PinHigh k (played k r m cycles).registers (played k r m cycles).memory → IsRedraw k.width wanted contrast out kinds (Bytes n) out' kinds'
+        → PinHigh k (played k r m cycles).registers (played k r m cycles).memory → IsRedraw k.width wanted contrast out kinds (Ok n) out' kinds'
         → Redraws k (played k r m cycles).registers (played k r m cycles).memory wanted contrast (pairs n kinds' out')
     then_redraw r m wanted contrast out kinds n out' kinds' cycles h sent =
         sent_redraws (played k r m cycles).registers (played k r m cycles).memory wanted contrast out kinds n out' kinds' h sent
 
     module _ (r : Registers) (m : List ℕ) (u : List ℕ) (contrast : ℕ) (out kinds : List ℕ) (n : ℕ) (out' kinds' : List ℕ)
-        (sent : IsRedraw k.width u contrast out kinds (Bytes n) out' kinds') where
+        (sent : IsRedraw k.width u contrast out kinds (Ok n) out' kinds') where
       pub cut_update_redraws : (recorded wanted : List ℕ) (cycles : List BusCycle) (i : ℕ) → Updates k r m recorded wanted cycles
           → Redraws k (played k r m (take i cycles)).registers (played k r m (take i cycles)).memory u contrast (pairs n kinds' out')
       cut_update_redraws recorded wanted cycles i h = then_redraw r m u contrast out kinds n out' kinds' (take i cycles) (h.cut_pin i) sent

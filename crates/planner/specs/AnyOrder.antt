@@ -2,7 +2,7 @@
 -- bytes that calls of page_group put into their outputs. For this kind of update only: each of its groups begins with its page byte, so
 -- that none leans on the one before.
 -- Assumes nothing.
-use Rattle.std.specs.Prelude.{ℕ, ◌+◌, ◌*◌, ◌≤◌, ◌≡◌, false, cond, List, [], ◌∷◌, ◌++◌, map, length, take, eqb}
+use Rattle.std.specs.Prelude.{ℕ, ◌+◌, ◌*◌, ◌≤◌, ◌≡◌, false, cond, List, [], ◌∷◌, ◌++◌, map, length, take, eqb, Ok}
 use Rattle.paper.specs.declared.sheet.Sheet.{Sheet}
 use Rattle.registers.specs.Registers.{with_fresh}
 use Rattle.registers.specs.declared.Registers.{Registers}
@@ -15,7 +15,6 @@ use Rattle.streams.specs.Shape.{group}
 use Rattle.streams.specs.Order.{work_in, Last, Ends}
 use Rattle.planner.specs.Group.{IsGroup}
 use Rattle.planner.specs.Demand3.{PinHigh, Holding, played, Accepted, pairs, ended}
-use Rattle.planner.specs.declared.count.Count.TheVariants.{Bytes}
 
 -- from r and m to wanted, by these cycles: the groups of the pages of `order`, each sent once
 pub record InAnyOrder (k : Sheet) (r : Registers) (m recorded wanted order : List ℕ) (cycles : List BusCycle) : Type 0 where
@@ -62,7 +61,7 @@ pub record Call : Type 0 where
 abbrev pub Answered : Sheet → List ℕ → List ℕ → List Call → Type 0
 Answered k recorded wanted [] = Unit {0}
 Answered k recorded wanted (c ∷ calls) =
-    IsGroup k.width recorded wanted c.page c.out c.kinds (Bytes c.bytes) c.out_left c.kinds_left × Answered k recorded wanted calls
+    IsGroup k.width recorded wanted c.page c.out c.kinds (Ok c.bytes) c.out_left c.kinds_left × Answered k recorded wanted calls
 
 -- their pages, in the order of the calls
 abbrev pub pages_of : List Call → List ℕ

@@ -1,8 +1,9 @@
 -- Demand 3 in plain words, over any chip's sheet: registers, a memory, the controller's own run, and the bytes that the calls put into
 -- their outputs. At the KS0713 that is at most 1,215 bytes and 1,219, at the KS0717 927 and 931.
 -- Assumes nothing.
-use Rattle.std.specs.Prelude.{ℕ, zero, suc, ◌+◌, ◌-◌, ◌*◌, ◌≤◌, ◌≡◌, false, cond, List, [], ◌∷◌, length, take, replicate, eqb}
+use Rattle.std.specs.Prelude.{ℕ, zero, suc, ◌+◌, ◌-◌, ◌*◌, ◌≤◌, ◌≡◌, false, cond, List, [], ◌∷◌, length, take, replicate, eqb, Ok, Err}
 use Rattle.std.proofs.Math.Option.{none}
+use Rattle.paper.specs.declared.refusal.Refusal.{Refusal}
 use Rattle.paper.specs.declared.sheet.Sheet.{Sheet}
 use Rattle.instructions.specs.declared.added.CommandSet.TheVariants.{Old}
 use Rattle.instructions.specs.declared.instruction.Awaited.TheVariants as awaited
@@ -18,7 +19,6 @@ use Rattle.streams.specs.Length.{update_length}
 use Rattle.streams.specs.Redraw.{redraw}
 use Rattle.streams.specs.Paint.{paint, drawn_all}
 use Rattle.planner.specs.Sent.{IsUpdate, IsRedraw}
-use Rattle.planner.specs.declared.count.Count.TheVariants.{Bytes, Refused}
 
 -- ---- premises
 
@@ -104,14 +104,14 @@ pub record Redraws (k : Sheet) (r : Registers) (m wanted : List ℕ) (contrast :
 -- so many bytes are long enough
 pub record Demand3 (k : Sheet) (most whole : ℕ) : Type 0 where
   pub updates : (r : Registers) (m recorded wanted out kinds : List ℕ) (n : ℕ) (out' kinds' : List ℕ) → Holding k r m recorded
-      → IsUpdate k.width recorded wanted out kinds (Bytes n) out' kinds' → Updates k r m recorded wanted (pairs n kinds' out')
+      → IsUpdate k.width recorded wanted out kinds (Ok n) out' kinds' → Updates k r m recorded wanted (pairs n kinds' out')
   pub redraws : (r : Registers) (m wanted : List ℕ) (contrast : ℕ) (out kinds : List ℕ) (n : ℕ) (out' kinds' : List ℕ) → PinHigh k r m
-      → IsRedraw k.width wanted contrast out kinds (Bytes n) out' kinds' → Redraws k r m wanted contrast (pairs n kinds' out')
+      → IsRedraw k.width wanted contrast out kinds (Ok n) out' kinds' → Redraws k r m wanted contrast (pairs n kinds' out')
   pub update_most : (recorded wanted out kinds : List ℕ) (n : ℕ) (out' kinds' : List ℕ)
-      → IsUpdate k.width recorded wanted out kinds (Bytes n) out' kinds' → n ≤ most
+      → IsUpdate k.width recorded wanted out kinds (Ok n) out' kinds' → n ≤ most
   pub redraw_whole : (wanted : List ℕ) (contrast : ℕ) (out kinds : List ℕ) (n : ℕ) (out' kinds' : List ℕ)
-      → IsRedraw k.width wanted contrast out kinds (Bytes n) out' kinds' → n ≡ whole
-  pub update_room : (recorded wanted out kinds : List ℕ) (n : ℕ) (out' kinds' : List ℕ) → length recorded ≡ 9 * k.width → length wanted ≡ 9 * k.width
-      → most ≤ length out → most ≤ length kinds → IsUpdate k.width recorded wanted out kinds (Refused n) out' kinds' → ⊥
-  pub redraw_room : (wanted : List ℕ) (contrast : ℕ) (out kinds : List ℕ) (n : ℕ) (out' kinds' : List ℕ) → length wanted ≡ 9 * k.width → contrast ≤ 63
-      → whole ≤ length out → whole ≤ length kinds → IsRedraw k.width wanted contrast out kinds (Refused n) out' kinds' → ⊥
+      → IsRedraw k.width wanted contrast out kinds (Ok n) out' kinds' → n ≡ whole
+  pub update_room : (recorded wanted out kinds : List ℕ) (e : Refusal) (out' kinds' : List ℕ) → length recorded ≡ 9 * k.width → length wanted ≡ 9 * k.width
+      → most ≤ length out → most ≤ length kinds → IsUpdate k.width recorded wanted out kinds (Err e) out' kinds' → ⊥
+  pub redraw_room : (wanted : List ℕ) (contrast : ℕ) (out kinds : List ℕ) (e : Refusal) (out' kinds' : List ℕ) → length wanted ≡ 9 * k.width → contrast ≤ 63
+      → whole ≤ length out → whole ≤ length kinds → IsRedraw k.width wanted contrast out kinds (Err e) out' kinds' → ⊥

@@ -1,14 +1,14 @@
 -- The first differing byte: page by page, columns rising.
 -- Assumes nothing.
-use Rattle.std.specs.Prelude.{ℕ, zero, suc, ◌≡◌, Bool, cond, ◌||◌, List}
+use Rattle.std.specs.Prelude.{ℕ, zero, suc, ◌≡◌, Bool, cond, ◌||◌, List, Result, Ok, Err, Option as Maybe, Some, None}
 use Rattle.std.proofs.Math.Option.{Option, none, some}
-use Rattle.paper.specs.Refusal.{wrong_size}
+use Rattle.paper.specs.Refusal.{wrong_size, number_of}
+use Rattle.paper.specs.declared.refusal.Refusal.{Refusal}
 use Rattle.paper.specs.Told.{Told, given, refused}
 use Rattle.streams.specs.Picture.{differs}
 use Rattle.streams.specs.Stretch.{Place}
 use Rattle.planner.specs.Pictures.{misfit}
-use Rattle.planner.specs.declared.first.Found.{Found}
-use Rattle.planner.specs.declared.first.Found.TheVariants.{At, Nothing, Refused}
+use Rattle.planner.specs.declared.first.Place.{Place as Found}
 
 -- the first of the n columns from c on of page p that differs, else what is found on the pages after it
 unfoldable pub first_on : (ℕ → Bool) → ℕ → ℕ → ℕ → Option Place → Option Place
@@ -25,12 +25,16 @@ unfoldable pub first_difference : ℕ → List ℕ → List ℕ → Told (Option
 first_difference W recorded wanted =
     cond (misfit W recorded || misfit W wanted) (refused wrong_size) (given (first_from W recorded wanted 0 9))
 
+-- a place that was found, or none
+abbrev pub place_of : Maybe Found → Option Place
+place_of (Some x) = some (record { page = x.page; column = x.column })
+place_of None = none
+
 -- an answer as the paper tells it
-abbrev pub told_found : Found → Told (Option Place)
-told_found (At p c) = given (some (record { page = p; column = c }))
-told_found Nothing = given none
-told_found (Refused n) = refused n
+abbrev pub told_found : Result (Maybe Found) Refusal → Told (Option Place)
+told_found (Ok x) = given (place_of x)
+told_found (Err e) = refused (number_of e)
 
 -- what first_difference promises
-pub record IsFirst (W : ℕ) (recorded wanted : List ℕ) (a : Found) : Type 0 where
+pub record IsFirst (W : ℕ) (recorded wanted : List ℕ) (a : Result (Maybe Found) Refusal) : Type 0 where
   pub tells : told_found a ≡ first_difference W recorded wanted

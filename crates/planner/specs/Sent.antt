@@ -1,15 +1,14 @@
 -- What a call that sends a stream answers, and what it leaves in the two outputs.
 -- Assumes nothing.
-use Rattle.std.specs.Prelude.{ℕ, ◌≡◌, Bool, cond, ◌||◌, List, map, length, ltb, eqb}
+use Rattle.std.specs.Prelude.{ℕ, ◌≡◌, Bool, cond, ◌||◌, List, map, length, ltb, eqb, Result}
 use Rattle.paper.specs.Refusal.{wrong_size, short_output, outside_field}
-use Rattle.paper.specs.Told.{given, refused}
+use Rattle.paper.specs.Told.{given, refused, told}
+use Rattle.paper.specs.declared.refusal.Refusal.{Refusal}
 use Rattle.paper.specs.Over.{over}
 use Rattle.controller.specs.Run.{BusCycle}
 use Rattle.streams.specs.Update.{update_stream}
 use Rattle.streams.specs.Redraw.{redraw_stream}
 use Rattle.planner.specs.Pictures.{misfit}
-use Rattle.planner.specs.Count.{told_count}
-use Rattle.planner.specs.declared.count.Count.{Count}
 
 abbrev pub kind_of : BusCycle → ℕ
 kind_of x = x.0
@@ -23,8 +22,8 @@ too_short s out kinds = ltb (length out) (length s) || ltb (length kinds) (lengt
 
 -- a call refused with `number`, 0 for none, that is to send s: the stream's length is answered, and its bytes and kinds are in the
 -- outputs; a refusal leaves both
-pub record Sent (number : ℕ) (s : List BusCycle) (out kinds : List ℕ) (a : Count) (out' kinds' : List ℕ) : Type 0 where
-  pub tells : told_count a ≡ cond (eqb number 0) (given (length s)) (refused number)
+pub record Sent (number : ℕ) (s : List BusCycle) (out kinds : List ℕ) (a : Result ℕ Refusal) (out' kinds' : List ℕ) : Type 0 where
+  pub tells : told a ≡ cond (eqb number 0) (given (length s)) (refused number)
   pub bytes : out' ≡ cond (eqb number 0) (over (map byte_of s) out) out
   pub kinds_left : kinds' ≡ cond (eqb number 0) (over (map kind_of s) kinds) kinds
 
@@ -41,10 +40,10 @@ redraw_refusal W wanted contrast out kinds =
     (cond (too_short (redraw_stream W wanted contrast) out kinds) short_output 0))
 
 -- what update and redraw promise
-abbrev pub IsUpdate : ℕ → List ℕ → List ℕ → List ℕ → List ℕ → Count → List ℕ → List ℕ → Type 0
+abbrev pub IsUpdate : ℕ → List ℕ → List ℕ → List ℕ → List ℕ → Result ℕ Refusal → List ℕ → List ℕ → Type 0
 IsUpdate W recorded wanted out kinds a out' kinds' =
     Sent (update_refusal W recorded wanted out kinds) (update_stream W recorded wanted) out kinds a out' kinds'
 
-abbrev pub IsRedraw : ℕ → List ℕ → ℕ → List ℕ → List ℕ → Count → List ℕ → List ℕ → Type 0
+abbrev pub IsRedraw : ℕ → List ℕ → ℕ → List ℕ → List ℕ → Result ℕ Refusal → List ℕ → List ℕ → Type 0
 IsRedraw W wanted contrast out kinds a out' kinds' =
     Sent (redraw_refusal W wanted contrast out kinds) (redraw_stream W wanted contrast) out kinds a out' kinds'

@@ -1,84 +1,58 @@
 // The first difference of two pictures.
 ghost use Rattle.std.specs.Prelude.{◌≡◌, ◌≤◌, ◌<◌};
-ghost use Rattle.paper.specs.Told.{given};
-ghost use Rattle.streams.specs.Picture.{differs};
 ghost use Rattle.planner.specs.Equal.{Past};
-ghost use Rattle.planner.specs.Pictures.{Pictures};
-ghost use Rattle.planner.specs.First.{first_from, told_found, IsFirst};
+ghost use Rattle.planner.specs.First.{first_from, place_of, IsFirst};
 
-use crate::equal::{past_equal, same_page};
-use crate::picture::{differ, misfit};
-use paper::refusal::WRONG_SIZE;
-use paper::sheet::{ks0713, ks0717};
+use crate::picture::Pair;
+use paper::refusal::Refusal;
+use paper::sheet::Chip;
 
-// Where it is, that there is none, or the number of a refusal.
-#[derive(Clone, Copy)]
-pub enum Found {
-    At { page: usize, column: usize },
-    Nothing,
-    Refused(u8),
+// A place of the memory.
+#[derive(Clone, Copy, Debug, PartialEq, Eq)]
+pub struct Place {
+    pub page: usize,
+    pub column: usize,
 }
 
-// A column up to which none from `from` on differs: past the last one on an equal page, else `from` itself.
-fn passed(recorded: &[u8], wanted: &[u8], width: usize, page: usize, from: usize) -> usize
-    requires { Pictures width recorded.now wanted.now × (page < 9) }
-    ensures { from ≤ width → Past (differs width recorded.now wanted.now page) width from result }
-{
-    if same_page(recorded, wanted, width, page) {
-        return width;
-    }
-    from
-}
+impl<'a> Pair<'a> {
+    ghost use Rattle.planner.specs.Pair.{apart};
 
-// Stops at the first difference found, page by page.
-fn scan(recorded: &[u8], wanted: &[u8], width: usize) -> Found
-    requires { Pictures width recorded.now wanted.now }
-    ensures { told_found result ≡ given (first_from width recorded.now wanted.now 0 9) }
-{
-    let mut page = 0;
-    let mut column = 0;
-    'pages: while page < 9 {
-        column = 0;
-        column = passed(recorded, wanted, width, page, column);
-        while column < width {
-            if differ(recorded, wanted, width, page, column) {
-                break 'pages;
-            }
-            column = past_equal(recorded, wanted, width, page, column + 1);
+    // A column up to which none from `from` on differs: past the last one on an equal page, else `from` itself.
+    fn passed(self, page: usize, from: usize) -> usize
+        requires { page < 9 }
+        ensures { from ≤ self.entry.wanted.width → Past (apart self.entry page) self.entry.wanted.width from result }
+    {
+        if self.same_page(page) {
+            return self.wanted.width;
         }
-        page += 1;
+        from
     }
-    if page < 9 {
-        Found::At { page, column }
-    } else {
-        Found::Nothing
-    }
-}
 
-// Refuses pictures that are not nine pages, then scans.
-fn first_for(recorded: &[u8], wanted: &[u8], width: usize) -> Found
-    requires { width ≤ 256 }
-    ensures { IsFirst width recorded.now wanted.now result }
-{
-    if misfit(recorded, width) | misfit(wanted, width) {
-        return Found::Refused(WRONG_SIZE);
+    // Stops at the first difference found, page by page.
+    fn scan(self) -> Option<Place>
+        ensures { place_of result ≡ first_from self.entry.wanted.width self.entry.recorded.now self.entry.wanted.bytes.now 0 9 }
+    {
+        let mut found = None;
+        'pages: for page in 0..9 {
+            // No `for` over the columns: a turn passes all equal ones at once.
+            let mut column = self.passed(page, 0);
+            while column < self.wanted.width {
+                if self.differ(page, column) {
+                    found = Some(Place { page, column });
+                    break 'pages;
+                }
+                column = self.past_equal(page, column + 1);
+            }
+        }
+        found
     }
-    scan(recorded, wanted, width)
 }
 
 // The page and column of the first differing byte, page by page, or that there is none; on page 8
-// only bit 0 counts. Refuses with 1 where a picture is not 1,188 bytes.
-pub fn first_difference(recorded: &[u8], wanted: &[u8]) -> Found
-    ensures { IsFirst 132 recorded.now wanted.now result }
+// only bit 0 counts. Refuses with 1 where a picture is not nine pages of the chip.
+pub fn first_difference<C: Chip>(recorded: &[u8], wanted: &[u8]) -> Result<Option<Place>, Refusal>
+    ensures { IsFirst C.sheet.width recorded.now wanted.now result }
 {
-    let width = ks0713().width;
-    first_for(recorded, wanted, width)
-}
-
-// The same of two pictures of the KS0717. Refuses with 1 where a picture is not 900 bytes.
-pub fn first_difference_ks0717(recorded: &[u8], wanted: &[u8]) -> Found
-    ensures { IsFirst 100 recorded.now wanted.now result }
-{
-    let width = ks0717().width;
-    first_for(recorded, wanted, width)
+    let pair = Pair::of::<C>(recorded, wanted)?;
+    Ok(pair.scan())
 }

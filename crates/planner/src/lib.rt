@@ -1,7 +1,6 @@
 // The planner: the first difference, the update's length, the update, its page groups and the redraw.
 #![tactic(auto)]
 
-pub mod count;
 mod equal;
 pub mod first;
 pub mod group;

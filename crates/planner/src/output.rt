@@ -3,9 +3,9 @@ ghost use Rattle.std.specs.Prelude.{◌-◌, ◌≤◌, ◌<◌, [], ◌∷◌, 
 ghost use Rattle.controller.specs.Chip.{page_cycle, data_cycle};
 ghost use Rattle.streams.specs.Stretch.{column_bytes};
 ghost use Rattle.streams.specs.Update.{wanted_bytes};
-ghost use Rattle.planner.specs.Output.{Fits, Room, Wrote, two_cycles};
+ghost use Rattle.planner.specs.Output.{Room, Wrote, two_cycles};
 
-use crate::picture::shown_at;
+use crate::picture::Picture;
 
 // The instruction bytes of a stream; the page byte and the column bytes carry a value besides.
 const PAGE: u8 = 0xb0;
@@ -73,28 +73,27 @@ pub(crate) fn put_address(
     put_column(out, kinds, next, column)
 }
 
-// The wanted bytes of a page, from column `from` up to and without column `to`.
-pub(crate) fn put_wanted(
-    wanted: &[u8],
-    width: usize,
-    page: usize,
-    from: usize,
-    to: usize,
-    out: &mut [u8],
-    kinds: &mut [u8],
-    at: usize,
-) -> usize
-    requires { Fits width wanted.now × (page < 9) × (to ≤ width)
-        × Room (map data_cycle (wanted_bytes width wanted.now page from (to - from))) out.old kinds.old at }
-    ensures { Wrote (map data_cycle (wanted_bytes width wanted.now page from (to - from)))
-        out.old kinds.old at out.new kinds.new result }
-{
-    let mut next = at;
-    let mut column = from;
-    while column < to {
-        let byte = shown_at(wanted, width, page, column);
-        next = put(out, kinds, next, DATA, byte);
-        column += 1;
+impl<'a> Picture<'a> {
+    // Its bytes on a page, from column `from` up to and without column `to`.
+    pub(crate) fn put_wanted(
+        self,
+        page: usize,
+        from: usize,
+        to: usize,
+        out: &mut [u8],
+        kinds: &mut [u8],
+        at: usize,
+    ) -> usize
+        requires { (page < 9) × (to ≤ self.width)
+            × Room (map data_cycle (wanted_bytes self.width self.bytes.now page from (to - from))) out.old kinds.old at }
+        ensures { Wrote (map data_cycle (wanted_bytes self.entry.width self.entry.bytes.now page from (to - from)))
+            out.old kinds.old at out.new kinds.new result }
+    {
+        let mut next = at;
+        for column in from..to {
+            let byte = self.shown_at(page, column);
+            next = put(out, kinds, next, DATA, byte);
+        }
+        next
     }
-    next
 }

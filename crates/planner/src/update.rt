@@ -1,19 +1,14 @@
 // The update: one walk over the columns, which carries the chip's own column counter.
-ghost use Rattle.std.specs.Prelude.{◌≡◌, ◌+◌, ◌≤◌, ◌<◌, cond, ◌||◌, false};
-ghost use Rattle.streams.specs.Picture.{differs};
+ghost use Rattle.std.specs.Prelude.{◌≡◌, ◌+◌, ◌≤◌, ◌<◌, cond, ◌||◌};
 ghost use Rattle.streams.specs.Length.{update_length};
-ghost use Rattle.streams.specs.Walk.{lead, walk, walk_pages};
-ghost use Rattle.planner.specs.Pictures.{Pictures};
-ghost use Rattle.planner.specs.Output.{Fits, Room, Wrote, column_piece, shorter};
+ghost use Rattle.streams.specs.Walk.{lead, walk_pages};
+ghost use Rattle.planner.specs.Output.{Room, Wrote, column_piece, shorter};
 ghost use Rattle.planner.specs.Sent.{IsUpdate};
 
-use crate::count::Count;
-use crate::equal::{past_equal, same_page};
-use crate::length::pages_length;
-use crate::output::{DATA, put, put_address, put_column, put_wanted};
-use crate::picture::{differ, misfit, shown_at};
-use paper::refusal::{SHORT_OUTPUT, WRONG_SIZE};
-use paper::sheet::{ks0713, ks0717};
+use crate::output::{DATA, put, put_address, put_column};
+use crate::picture::{Pair, Picture};
+use paper::refusal::Refusal;
+use paper::sheet::Chip;
 
 // Where the next cycle goes, whether this page's byte is out, and the column after the last byte.
 #[derive(Clone, Copy)]
@@ -23,188 +18,151 @@ struct Pen {
     next: usize,
 }
 
-// What goes ahead of a differing column's byte: the bytes of at most 2 equal columns between, or
-// else the address of a new stretch, with the page byte where it is not out yet.
-fn put_lead(
-    wanted: &[u8],
-    width: usize,
-    page: usize,
-    column: usize,
-    pen: Pen,
-    out: &mut [u8],
-    kinds: &mut [u8],
-) -> usize
-    requires { Fits width wanted.now × (page < 9) × (column < width) × (pen.next ≤ width)
-        × Room (lead width wanted.now page pen.sent pen.next column) out.old kinds.old pen.at }
-    ensures { Wrote (lead width wanted.now page pen.sent pen.next column)
-        out.old kinds.old pen.at out.new kinds.new result }
-{
-    let at = pen.at;
-    let next = pen.next;
-    if pen.sent {
-        if column <= next + 2 {
-            return put_wanted(wanted, width, page, next, column, out, kinds, at);
+impl<'a> Picture<'a> {
+    // What goes ahead of a differing column's byte: the bytes of at most 2 equal columns between, or
+    // else the address of a new stretch, with the page byte where it is not out yet.
+    fn put_lead(
+        self,
+        page: usize,
+        column: usize,
+        pen: Pen,
+        out: &mut [u8],
+        kinds: &mut [u8],
+    ) -> usize
+        requires { (page < 9) × (column < self.width) × (pen.next ≤ self.width)
+            × Room (lead self.width self.bytes.now page pen.sent pen.next column) out.old kinds.old pen.at }
+        ensures { Wrote (lead self.entry.width self.entry.bytes.now page pen.sent pen.next column)
+            out.old kinds.old pen.at out.new kinds.new result }
+    {
+        let at = pen.at;
+        let next = pen.next;
+        if pen.sent {
+            if column <= next + 2 {
+                return self.put_wanted(page, next, column, out, kinds, at);
+            }
+            return put_column(out, kinds, at, column);
         }
-        return put_column(out, kinds, at, column);
+        put_address(out, kinds, at, page, column)
     }
-    put_address(out, kinds, at, page, column)
 }
 
-// One column: an equal one sends nothing, a differing one what goes ahead of it and its byte.
-fn update_column(
-    recorded: &[u8],
-    wanted: &[u8],
-    width: usize,
-    page: usize,
-    column: usize,
-    pen: Pen,
-    out: &mut [u8],
-    kinds: &mut [u8],
-) -> Pen
-    requires { Pictures width recorded.now wanted.now × (page < 9) × (column < width) × (pen.next ≤ width)
-        × Room (column_piece width recorded.now wanted.now page pen.sent pen.next column) out.old kinds.old pen.at }
-    ensures { Wrote (column_piece width recorded.now wanted.now page pen.sent pen.next column)
-        out.old kinds.old pen.at out.new kinds.new result.at
-        × (result.sent ≡ (differs width recorded.now wanted.now page column || pen.sent))
-        × (result.next ≡ cond (differs width recorded.now wanted.now page column) (column + 1) pen.next) }
-{
-    if differ(recorded, wanted, width, page, column) {
-        let byte = shown_at(wanted, width, page, column);
-        let led = put_lead(wanted, width, page, column, pen, out, kinds);
-        let at = put(out, kinds, led, DATA, byte);
-        return Pen {
+impl<'a> Pair<'a> {
+    ghost use Rattle.planner.specs.Pair.{apart, page_walk};
+
+    // One column: an equal one sends nothing, a differing one what goes ahead of it and its byte.
+    fn update_column(
+        self,
+        page: usize,
+        column: usize,
+        pen: Pen,
+        out: &mut [u8],
+        kinds: &mut [u8],
+    ) -> Pen
+        requires { (page < 9) × (column < self.wanted.width) × (pen.next ≤ self.wanted.width)
+            × Room (column_piece self.wanted.width self.recorded.now self.wanted.bytes.now page pen.sent pen.next column)
+            out.old kinds.old pen.at }
+        ensures { Wrote (column_piece self.entry.wanted.width self.entry.recorded.now self.entry.wanted.bytes.now page pen.sent pen.next column)
+            out.old kinds.old pen.at out.new kinds.new result.at
+            × (result.sent ≡ (apart self.entry page column || pen.sent))
+            × (result.next ≡ cond (apart self.entry page column) (column + 1) pen.next) }
+    {
+        if self.differ(page, column) {
+            let byte = self.wanted.shown_at(page, column);
+            let led = self.wanted.put_lead(page, column, pen, out, kinds);
+            let at = put(out, kinds, led, DATA, byte);
+            return Pen {
+                at,
+                sent: true,
+                next: column + 1,
+            };
+        }
+        pen
+    }
+
+    // One page's work, from index `at` on. Inlined, as what calls it is, so that the compiler knows the width.
+    #[inline(always)]
+    fn update_page(self, page: usize, out: &mut [u8], kinds: &mut [u8], at: usize) -> usize
+        requires { (page < 9) × Room (page_walk self page) out.old kinds.old at }
+        ensures { Wrote (page_walk self.entry page) out.old kinds.old at out.new kinds.new result }
+    {
+        let mut pen = Pen {
             at,
-            sent: true,
-            next: column + 1,
+            sent: false,
+            next: 0,
         };
-    }
-    pen
-}
-
-// One page's work, from index `at` on.
-pub(crate) fn update_page(
-    recorded: &[u8],
-    wanted: &[u8],
-    width: usize,
-    page: usize,
-    out: &mut [u8],
-    kinds: &mut [u8],
-    at: usize,
-) -> usize
-    requires { Pictures width recorded.now wanted.now × (page < 9)
-        × Room (walk width wanted.now page (differs width recorded.now wanted.now page) false 0 0 width) out.old kinds.old at }
-    ensures { Wrote (walk width wanted.now page (differs width recorded.now wanted.now page) false 0 0 width)
-        out.old kinds.old at out.new kinds.new result }
-{
-    let mut pen = Pen {
-        at,
-        sent: false,
-        next: 0,
-    };
-    let mut column = 0;
-    while column < width {
-        if differ(recorded, wanted, width, page, column) {
-            pen = update_column(recorded, wanted, width, page, column, pen, out, kinds);
-            column += 1;
-        } else {
-            column = past_equal(recorded, wanted, width, page, column + 1);
+        // No `for`: a turn passes an equal column together with all equal ones after it.
+        let mut column = 0;
+        while column < self.wanted.width {
+            if self.differ(page, column) {
+                pen = self.update_column(page, column, pen, out, kinds);
+                column += 1;
+            } else {
+                column = self.past_equal(page, column + 1);
+            }
         }
+        pen.at
     }
-    pen.at
-}
 
-// The same, walked only where the page differs: an equal page has no work. It stands outside the
-// walk, so that the compiler takes the two loops apart.
-pub(crate) fn update_differing(
-    recorded: &[u8],
-    wanted: &[u8],
-    width: usize,
-    page: usize,
-    out: &mut [u8],
-    kinds: &mut [u8],
-    at: usize,
-) -> usize
-    requires { Pictures width recorded.now wanted.now × (page < 9)
-        × Room (walk width wanted.now page (differs width recorded.now wanted.now page) false 0 0 width) out.old kinds.old at }
-    ensures { Wrote (walk width wanted.now page (differs width recorded.now wanted.now page) false 0 0 width)
-        out.old kinds.old at out.new kinds.new result }
-{
-    if same_page(recorded, wanted, width, page) {
-        return at;
+    // The same, walked only where the page differs: an equal page has no work. It stands outside the
+    // walk, so that the compiler takes the two loops apart.
+    #[inline(always)]
+    pub(crate) fn update_differing(
+        self,
+        page: usize,
+        out: &mut [u8],
+        kinds: &mut [u8],
+        at: usize,
+    ) -> usize
+        requires { (page < 9) × Room (page_walk self page) out.old kinds.old at }
+        ensures { Wrote (page_walk self.entry page) out.old kinds.old at out.new kinds.new result }
+    {
+        if self.same_page(page) {
+            return at;
+        }
+        self.update_page(page, out, kinds, at)
     }
-    update_page(recorded, wanted, width, page, out, kinds, at)
-}
 
-// All nine pages, in rising order.
-fn update_pages(
-    recorded: &[u8],
-    wanted: &[u8],
-    width: usize,
-    out: &mut [u8],
-    kinds: &mut [u8],
-) -> usize
-    requires { Pictures width recorded.now wanted.now
-        × Room (walk_pages width recorded.now wanted.now 0 9) out.old kinds.old 0 }
-    ensures { Wrote (walk_pages width recorded.now wanted.now 0 9)
-        out.old kinds.old 0 out.new kinds.new result }
-{
-    let mut at = 0;
-    let mut page = 0;
-    while page < 9 {
-        at = update_differing(recorded, wanted, width, page, out, kinds, at);
-        page += 1;
+    // All nine pages, in rising order.
+    fn update_pages(self, out: &mut [u8], kinds: &mut [u8]) -> usize
+        requires { Room (walk_pages self.wanted.width self.recorded.now self.wanted.bytes.now 0 9) out.old kinds.old 0 }
+        ensures { Wrote (walk_pages self.entry.wanted.width self.entry.recorded.now self.entry.wanted.bytes.now 0 9)
+            out.old kinds.old 0 out.new kinds.new result }
+    {
+        let mut at = 0;
+        for page in 0..9 {
+            at = self.update_differing(page, out, kinds, at);
+        }
+        at
     }
-    at
-}
 
-// Whether an output of a length is shorter than the update. The update's length is counted only
-// where one is shorter than the longest update.
-fn too_short(recorded: &[u8], wanted: &[u8], width: usize, out: usize, kinds: usize) -> bool
-    requires { Pictures width recorded.now wanted.now }
-    ensures { result ≡ shorter out kinds (update_length width recorded.now wanted.now) }
-{
-    let most = 9 * (width + 3);
-    if (out < most) | (kinds < most) {
-        let need = pages_length(recorded, wanted, width);
-        return (out < need) | (kinds < need);
+    // Whether an output of a length is shorter than the update. The update's length is counted only
+    // where one is shorter than the longest update.
+    fn too_short(self, out: usize, kinds: usize) -> bool
+        ensures { result ≡ shorter out kinds (update_length self.entry.wanted.width self.entry.recorded.now self.entry.wanted.bytes.now) }
+    {
+        let most = 9 * (self.wanted.width + 3);
+        if (out < most) | (kinds < most) {
+            let need = self.pages_length();
+            return (out < need) | (kinds < need);
+        }
+        false
     }
-    false
-}
-
-// The refusals in their order, then the bytes.
-fn update_for(
-    recorded: &[u8],
-    wanted: &[u8],
-    width: usize,
-    out: &mut [u8],
-    kinds: &mut [u8],
-) -> Count
-    requires { width ≤ 256 }
-    ensures { IsUpdate width recorded.now wanted.now out.old kinds.old result out.new kinds.new }
-{
-    if misfit(recorded, width) | misfit(wanted, width) {
-        return Count::Refused(WRONG_SIZE);
-    }
-    if too_short(recorded, wanted, width, out.len(), kinds.len()) {
-        return Count::Refused(SHORT_OUTPUT);
-    }
-    Count::Bytes(update_pages(recorded, wanted, width, out, kinds))
 }
 
 // Sends the bytes that turn the recorded picture into the wanted one to `out`, their kinds to
-// `kinds`, and answers how many. Refuses with 1 where a picture is not 1,188 bytes, then with 5
+// `kinds`, and answers how many. Refuses with 1 where a picture is not nine pages of the chip, then with 5
 // where an output is shorter than the stream; a refusal leaves both outputs as they were.
-pub fn update(recorded: &[u8], wanted: &[u8], out: &mut [u8], kinds: &mut [u8]) -> Count
-    ensures { IsUpdate 132 recorded.now wanted.now out.old kinds.old result out.new kinds.new }
+pub fn update<C: Chip>(
+    recorded: &[u8],
+    wanted: &[u8],
+    out: &mut [u8],
+    kinds: &mut [u8],
+) -> Result<usize, Refusal>
+    ensures { IsUpdate C.sheet.width recorded.now wanted.now out.old kinds.old result out.new kinds.new }
 {
-    let width = ks0713().width;
-    update_for(recorded, wanted, width, out, kinds)
-}
-
-// The same for the KS0717. Refuses with 1 where a picture is not 900 bytes, then with 5.
-pub fn update_ks0717(recorded: &[u8], wanted: &[u8], out: &mut [u8], kinds: &mut [u8]) -> Count
-    ensures { IsUpdate 100 recorded.now wanted.now out.old kinds.old result out.new kinds.new }
-{
-    let width = ks0717().width;
-    update_for(recorded, wanted, width, out, kinds)
+    let pair = Pair::of::<C>(recorded, wanted)?;
+    if pair.too_short(out.len(), kinds.len()) {
+        return Err(Refusal::ShortOutput);
+    }
+    Ok(pair.update_pages(out, kinds))
 }

@@ -6,30 +6,26 @@ use input::arguments::argument_bytes;
 use input::read_full;
 use std::fs;
 
-// Room for two pictures, and a byte more, which tells that a file is longer than a picture. It stands in a function of its own, so that
-// its bytes are not computed where it is used.
-pub(crate) fn pictures_room() -> [u8; 2377]
-    ensures { 2377 ≡ length result }
-{
-    [0; 2377]
+// Reads the file of a name into the room, where there is one, and answers how many bytes came.
+fn read_file(rt: &HostRuntime, name: &[u8], room: &mut [u8]) -> Option<usize> {
+    let path = str::from_utf8(name).ok()?;
+    let mut file = fs::open(rt, path).ok()?;
+    Some(read_full(&mut file, room))
 }
 
-// Reads the file of a name into the room, and answers whether it is as long as a picture.
+// The same, and answers whether it is as long as a picture.
 fn read_picture(rt: &HostRuntime, name: &[u8], room: &mut [u8]) -> bool {
-    let Ok(path) = str::from_utf8(name) else {
-        no_file(rt, name);
-        return false;
-    };
-    let Ok(mut file) = fs::open(rt, path) else {
-        no_file(rt, name);
-        return false;
-    };
-    let n = read_full(&mut file, room);
-    if n != 1188 {
-        no_picture(rt, name);
-        return false;
+    match read_file(rt, name, room) {
+        Some(1188) => true,
+        Some(_) => {
+            no_picture(rt, name);
+            false
+        }
+        None => {
+            no_file(rt, name);
+            false
+        }
     }
-    true
 }
 
 // Reads the picture that an argument names into place i.
@@ -51,12 +47,10 @@ pub(crate) fn read_pictures(
 ) -> bool
     requires { (first ≤ 2) × (count ≤ 2) × (2377 ≡ length pictures.old) }
 {
-    let mut i = 0;
-    while i < count {
+    for i in 0..count {
         if !read_argument(rt, first + i, i, pictures) {
             return false;
         }
-        i += 1;
     }
     true
 }

@@ -1,17 +1,17 @@
--- A list of cycles and its bytes: each is found again in the other; and the cycles of a list a turn at a time.
+-- A list of cycles and its bytes: each is found again in the other.
 -- Assumes nothing.
-use Prim.Native.Nat.{ℕ, suc, ◌+◌, ◌*◌, ◌/◌, ◌≤◌, ◌<◌}
+use Prim.Native.Nat.{ℕ, suc, ◌*◌, ◌/◌, ◌<◌}
 use mathlib.Core.Path.{◌≡◌, refl, sym, ap, subst, ◌∙◌}
 use mathlib.Core.Bool.{true, false, ◌||◌}
 use mathlib.Core.List.{List, [], ◌∷◌}
 use native.Mathlib.Omega.{arith}
 use borrow.Author.Tests.{lt-ltb, ltb-true}
 use lib.Dec.{T}
-use lib.ListN.{length, get_or, take, drop}
+use lib.ListN.{length, get_or, take}
 use Rattle.controller.specs.Cycle.{malformed}
 use Rattle.controller.specs.Run.{BusCycle}
 use Rattle.bus.specs.Cycles.{cycles_of}
-use Rattle.bus.proofs.Playing.{few, cycles_next, cycles_at, cycles_end}
+use Rattle.bus.proofs.Playing.{few, cycles_next}
 use Rattle.paper.proofs.Cases.{split}
 use Rattle.paper.proofs.Either.{neither}
 use Rattle.recorder.specs.Cycles.{good_cycle, any_wrong, bytes_of}
@@ -54,18 +54,6 @@ wrong_none = refl
 pub wrong_next : (x : BusCycle) (xs : List BusCycle) → any_wrong (x ∷ xs) ≡ (malformed x.0 x.1 || any_wrong xs)
 unfolding any_wrong
 wrong_next x xs = refl
-
-module _ (bytes : List ℕ) (i : ℕ) where
-  pub scan_good : i < length bytes / 2 → malformed (get_or bytes (2 * i) 0) (get_or bytes (2 * i + 1) 0) ≡ false
-      → any_wrong (cycles_of (drop (2 * i) bytes)) ≡ any_wrong (cycles_of (drop (2 * (i + 1)) bytes))
-  scan_good h e = ap any_wrong (cycles_at bytes i h) ∙ wrong_next _ _ ∙ rw e
-
-  pub scan_wrong : i < length bytes / 2 → malformed (get_or bytes (2 * i) 0) (get_or bytes (2 * i + 1) 0) ≡ true
-      → any_wrong (cycles_of (drop (2 * i) bytes)) ≡ true
-  scan_wrong h e = ap any_wrong (cycles_at bytes i h) ∙ wrong_next _ _ ∙ rw e
-
-  pub scan_end : length bytes / 2 ≤ i → any_wrong (cycles_of (drop (2 * i) bytes)) ≡ false
-  scan_end h = ap any_wrong (cycles_end bytes i h) ∙ wrong_none
 
 -- ---- good cycles
 

@@ -12,6 +12,7 @@ use borrow.Author.Tests.{lt-ltb, le-ltb, eq-eqb}
 use lib.Dec.{ltb}
 use lib.ListN.{length, get_or, take, drop, length-drop, take-append-drop}
 use lib.Seq.{drop-drop, drop_at, take_at, take-length, length-take-le}
+use Rattle.std.specs.Prelude.{Ok}
 use Rattle.paper.specs.Told.{given}
 use Rattle.paper.proofs.Telling.{given_one, not_given}
 use Rattle.instructions.specs.Added.{is_new}
@@ -23,7 +24,6 @@ use Rattle.bus.specs.Cycles.{cycles_of}
 use Rattle.bus.proofs.Playing.{two, few, cycles_next}
 use Rattle.jobs.specs.Header.{word_at, cycle_at, pictures_in, set_in, wrong_cycles, job_of, header_of}
 use Rattle.jobs.specs.declared.header.Job.{Job}
-use Rattle.jobs.specs.declared.header.Header.TheVariants.{Good}
 use Rattle.jobs.proofs.Scan.{word_is, scan_more, scan_none, Words, Counted, Sized, sizes_right, right_sizes, header_good, cycles_wrong, Way, short, sizes, cycle, good, way, header_holds}
 use Rattle.recorder.specs.Cycles.{any_wrong, bytes_of}
 use Rattle.recorder.specs.Job.{word_bytes, most_pictures, count_field, header_bytes, job_bytes, wrong_pictures, job_refusal, cycles_from, file_cycles, file_pictures}
@@ -71,7 +71,7 @@ abbrev pub cycle_part : List ℕ → Job → List ℕ
 cycle_part file j = take (2 * j.cycles) (drop 8 file)
 
 pub part_cycles : (file : List ℕ) (j : Job) → header_of file ≡ given j → cycles_of (cycle_part file j) ≡ file_cycles file j
-part_cycles file j e = same_cycles file 0 j.cycles (omega (arith, (header_holds file {a = Good j} (record { tells = sym e }) refl).whole))
+part_cycles file j e = same_cycles file 0 j.cycles (omega (arith, (header_holds file {a = Ok j} (record { tells = sym e }) refl).whole))
 
 right_by : (file : List ℕ) (j : Job) → Way file → header_of file ≡ given j → any_wrong (file_cycles file j) ≡ false
 right_by file j (short h e) f = absurd (not_given (sym e ∙ f))

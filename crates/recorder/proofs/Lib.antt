@@ -1,4 +1,5 @@
 pub mod CycleBytes
+pub mod Chunked
 pub mod Letters
 pub mod Starting
 pub mod Lines

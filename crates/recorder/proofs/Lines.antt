@@ -3,7 +3,7 @@
 -- Assumes nothing.
 use Prim.Native.Nat.{ℕ, ◌+◌, ◌*◌, ◌/◌, ◌%◌, ◌≤◌, ◌<◌}
 use mathlib.Core.Path.{◌≡◌, refl, sym, ap, subst, ◌∙◌}
-use mathlib.Core.Logic.{◌≢◌}
+use mathlib.Core.Logic.{◌≢◌, ◌⊎◌, ⊎_elim}
 use mathlib.Core.Bool.{Bool, true, false, cond, not, ◌||◌, ◌&&◌}
 use mathlib.Core.List.{List, [], ◌∷◌, ◌++◌}
 use native.Mathlib.Omega.{arith}
@@ -11,6 +11,9 @@ use borrow.Author.Tests.{lt-ltb, le-ltb, ltb-false, eq-eqb}
 use lib.Dec.{T, ltb, eqb}
 use lib.ListN.{length, get_or, drop}
 use Rattle.controller.specs.Run.{BusCycle}
+use Rattle.paper.specs.Kind.{kind_number}
+use Rattle.paper.specs.declared.kind.Kind.{Kind}
+use Rattle.paper.specs.declared.kind.Kind.TheVariants.{Instruction, DataWrite, StatusRead, DataRead, PinLow, PinHigh}
 use Rattle.paper.proofs.Cases.{less}
 use Rattle.paper.proofs.Either.{neither}
 use Rattle.jobs.specs.Text.{digit}
@@ -18,7 +21,6 @@ use Rattle.jobs.proofs.Digits.{hex_is}
 use Rattle.recorder.specs.Cycles.{good_cycle}
 use Rattle.recorder.specs.Line.{letter_of, cycle_text, kind_by, digit_by, cycle_in, starts_with, line_in}
 use Rattle.recorder.specs.Scan.{said, no_line, line_for, short_line, long_line}
-use Rattle.recorder.specs.declared.line.Line.{Line}
 use Rattle.recorder.proofs.CycleBytes.{Formed, good_formed, formed_good}
 use Rattle.recorder.proofs.Letters.{kind_back, letter_back, letter_some, digit_below, by_back, digit_back, digit_some}
 use Rattle.recorder.proofs.Starting.{starts_front, front_starts, starts_at, starts_none}
@@ -107,11 +109,11 @@ line_again x rest g =
 -- ---- the code's tests of the bytes
 
 -- a test and its opposite
-cond_not : (a : Bool) (x y : Line) → cond (not a) x y ≡ cond a y x
+cond_not : {A : Type 0} (a : Bool) (x y : A) → cond (not a) x y ≡ cond a y x
 cond_not true x y = refl
 cond_not false x y = refl
 
-cond_both : (a b : Bool) (x y : Line) → cond (not a || not b) x y ≡ cond (a && b) y x
+cond_both : {A : Type 0} (a b : Bool) (x y : A) → cond (not a || not b) x y ≡ cond (a && b) y x
 cond_both true b x y = cond_not b x y
 cond_both false b x y = refl
 
@@ -188,3 +190,16 @@ module _ (t : List ℕ) where
       (λ l. (
       let small : v < 256 = omega arith in
       rw (value_small h small, cycle_long t k refl few, long_text k v few, le-ltb 255 v l) (cond_both (eqb (get_or t 1 0) 32) (eqb (get_or t 4 0) 10) no_line (said k v 5))))
+
+-- ---- kinds with a value, and without
+
+pub with_value : (k : Kind) → (k ≡ Instruction) ⊎ (k ≡ DataWrite) → kind_number k ≤ 1
+with_value k h = ⊎_elim (λ e. rw e (omega arith)) (λ e. rw e (omega arith)) h
+
+pub without_value : (k : Kind) → (k ≡ Instruction → ⊥) → (k ≡ DataWrite → ⊥) → (1 < kind_number k) × (kind_number k ≤ 5)
+without_value Instruction h g = absurd (h refl)
+without_value DataWrite h g = absurd (g refl)
+without_value StatusRead h g = (omega arith, omega arith)
+without_value DataRead h g = (omega arith, omega arith)
+without_value PinLow h g = (omega arith, omega arith)
+without_value PinHigh h g = (omega arith, omega arith)

@@ -5,76 +5,72 @@ use Prim.Native.Nat.{ℕ, ◌*◌}
 use mathlib.Core.Path.{◌≡◌, refl, sym, ap, subst, ◌∙◌}
 use mathlib.Core.Logic.{◌≢◌, inl, inr, ⊎_elim}
 use mathlib.Core.Bool.{true, false}
-use mathlib.Core.Option.{Option, none, some}
 use mathlib.Core.List.{List, [], ◌∷◌}
 use lib.Dec.{T}
 use lib.ListN.{length}
+use Rattle.std.specs.Prelude.{Result, Ok, Err}
+use Rattle.paper.specs.Refusal.{number_of}
+use Rattle.paper.specs.Told.{told}
 use Rattle.paper.specs.Over.{over}
+use Rattle.paper.specs.declared.refusal.Refusal.{Refusal}
 use Rattle.paper.proofs.Either.{either, or_true}
 use Rattle.paper.proofs.Exactly.{Exactly, no_exactly, yes_exactly}
-use Rattle.paper.proofs.Telling.{apart}
+use Rattle.paper.proofs.Telling.{told_one, number_one, some_one, none_some}
 use Rattle.paper.proofs.Answering.{number_number, refused_number}
 use Rattle.instructions.specs.declared.added.CommandSet.{CommandSet}
 use Rattle.controller.specs.Cycle.{malformed}
 use Rattle.controller.specs.Run.{BusCycle}
-use Rattle.planner.specs.Count.{told_count}
-use Rattle.planner.specs.declared.count.Count.{Count}
-use Rattle.planner.specs.declared.count.Count.TheVariants as count
-use Rattle.planner.proofs.Promised.{count_told}
 use Rattle.recorder.specs.Cycles.{any_wrong}
 use Rattle.recorder.specs.Written.{Written}
 use Rattle.recorder.specs.Text.{told_lines, IsWrittenText, IsReadText}
 use Rattle.recorder.specs.Job.{wrong_pictures, IsWrittenJob}
-use Rattle.recorder.specs.declared.text.Lines.{Lines}
-use Rattle.recorder.specs.declared.text.Lines.TheVariants as lines
+use Rattle.recorder.specs.declared.text.Unread.{Unread}
+use Rattle.recorder.specs.declared.text.Unread.TheVariants.{BadLine, Refused}
 use Rattle.recorder.proofs.CycleBytes.{wrong_none, wrong_next}
 use Rattle.recorder.proofs.Answers.{right_pictures}
 use Rattle.recorder.proofs.JobFile.{pictures_right}
 
 -- ---- one answer
 
-written_one : {number : ℕ} {bytes out : List ℕ} {a b : Count} {l m : List ℕ} → Written number bytes out a l → Written number bytes out b m → (a ≡ b) × (l ≡ m)
-written_one {a = a} {b = b} f g = (count_told a b (f.tells ∙ sym g.tells), f.leaves ∙ sym g.leaves)
+written_one : {number : ℕ} {bytes out : List ℕ} {a b : Result ℕ Refusal} {l m : List ℕ} → Written number bytes out a l → Written number bytes out b m → (a ≡ b) × (l ≡ m)
+written_one {a = a} {b = b} f g = (told_one a b (f.tells ∙ sym g.tells), f.leaves ∙ sym g.leaves)
 
-pub text_one : (cycles : List ℕ) {out : List ℕ} {a b : Count} {l m : List ℕ} → IsWrittenText cycles out a l → IsWrittenText cycles out b m → (a ≡ b) × (l ≡ m)
+pub text_one : (cycles : List ℕ) {out : List ℕ} {a b : Result ℕ Refusal} {l m : List ℕ} → IsWrittenText cycles out a l → IsWrittenText cycles out b m → (a ≡ b) × (l ≡ m)
 text_one cycles f g = written_one f g
 
-pub job_one : (set : CommandSet) (cycles : List ℕ) (p : ℕ) (pictures : List ℕ) {out : List ℕ} {a b : Count} {l m : List ℕ}
+pub job_one : (set : CommandSet) (cycles : List ℕ) (p : ℕ) (pictures : List ℕ) {out : List ℕ} {a b : Result ℕ Refusal} {l m : List ℕ}
     → IsWrittenJob set cycles p pictures out a l → IsWrittenJob set cycles p pictures out b m → (a ≡ b) × (l ≡ m)
 job_one set cycles p pictures f g = written_one f g
 
--- what is told of an answer of read_text leads back to it
-lines_by : ℕ → Option ℕ → Option ℕ → Lines
-lines_by n (some k) l = lines.Cycles k
-lines_by n none (some l) = lines.BadLine l
-lines_by n none none = lines.Refused n
+-- answers of read_text that are told alike are equal
+pub lines_told : (a b : Result ℕ Unread) → told_lines a ≡ told_lines b → a ≡ b
+lines_told (Ok n) (Ok m) e = ap Ok (some_one (ap (λ t. t.cycles) e))
+lines_told (Ok n) (Err (BadLine m)) e = absurd (none_some (ap (λ t. t.cycles) (sym e)))
+lines_told (Ok n) (Err (Refused s)) e = absurd (none_some (ap (λ t. t.cycles) (sym e)))
+lines_told (Err (BadLine n)) (Ok m) e = absurd (none_some (ap (λ t. t.cycles) e))
+lines_told (Err (BadLine n)) (Err (BadLine m)) e = ap (λ (k : ℕ). Err (BadLine k)) (some_one (ap (λ t. t.line) e))
+lines_told (Err (BadLine n)) (Err (Refused s)) e = absurd (none_some (ap (λ t. t.line) (sym e)))
+lines_told (Err (Refused r)) (Ok m) e = absurd (none_some (ap (λ t. t.cycles) e))
+lines_told (Err (Refused r)) (Err (BadLine m)) e = absurd (none_some (ap (λ t. t.line) e))
+lines_told (Err (Refused r)) (Err (Refused s)) e = ap (λ (k : Refusal). Err (Refused k)) (number_one r s (ap (λ t. t.number) e))
 
-lines_back : (a : Lines) → lines_by (told_lines a).number (told_lines a).cycles (told_lines a).line ≡ a
-unfolding lines_by
-lines_back (lines.Cycles n) = refl
-lines_back (lines.BadLine n) = refl
-lines_back (lines.Refused n) = refl
-
-pub lines_told : (a b : Lines) → told_lines a ≡ told_lines b → a ≡ b
-lines_told = apart told_lines (λ t. lines_by t.number t.cycles t.line) lines_back
-
-pub lines_one : {text out : List ℕ} {a b : Lines} {l m : List ℕ} → IsReadText text out a l → IsReadText text out b m → (a ≡ b) × (l ≡ m)
+pub lines_one : {text out : List ℕ} {a b : Result ℕ Unread} {l m : List ℕ} → IsReadText text out a l → IsReadText text out b m → (a ≡ b) × (l ≡ m)
 lines_one {a = a} {b = b} f g = (lines_told a b (f.tells ∙ sym g.tells), f.leaves ∙ sym g.leaves)
 
 -- ---- a writer's number, and its refusal
 
-pub written_number : {number : ℕ} {bytes out : List ℕ} {a : Count} {left : List ℕ} → Written number bytes out a left → (told_count a).number ≡ number
+pub written_number : {number : ℕ} {bytes out : List ℕ} {a : Result ℕ Refusal} {left : List ℕ} → Written number bytes out a left → (told a).number ≡ number
 written_number {number} {bytes} f = ap (λ t. t.number) f.tells ∙ number_number number (length bytes)
 
-pub written_refused_leaves : {number n : ℕ} {bytes out left : List ℕ} → Written number bytes out (count.Refused n) left → (n ≢ 0) × (left ≡ out)
-written_refused_leaves {number} {n} {bytes} f =
-    let e = refused_number number n (length bytes) f.tells in
+pub written_refused_leaves : {number : ℕ} {r : Refusal} {bytes out left : List ℕ} → Written number bytes out (Err r) left → (number_of r ≢ 0) × (left ≡ out)
+written_refused_leaves {number} {r} {bytes} f =
+    let e = refused_number number (number_of r) (length bytes) f.tells in
     (e.0, f.leaves ∙ rw e.1 refl)
 
 -- where the number is 0, all is written
-pub written_all : {number : ℕ} {bytes out : List ℕ} {a : Count} {left : List ℕ} → Written number bytes out a left → number ≡ 0
-    → (a ≡ count.Bytes (length bytes)) × (left ≡ over bytes out)
-written_all {bytes = bytes} {a = a} f e = (count_told a (count.Bytes (length bytes)) (rw e at f.tells), rw e at f.leaves)
+pub written_all : {number : ℕ} {bytes out : List ℕ} {a : Result ℕ Refusal} {left : List ℕ} → Written number bytes out a left → number ≡ 0
+    → (a ≡ Ok (length bytes)) × (left ≡ over bytes out)
+written_all {bytes = bytes} {a = a} f e = (told_one a (Ok (length bytes)) (rw e at f.tells), rw e at f.leaves)
 
 -- ---- tests in words
 

@@ -4,7 +4,7 @@
 -- Assumes nothing.
 use Prim.Native.Nat.{ℕ, ◌+◌, ◌*◌, ◌≤◌, ◌<◌}
 use mathlib.Core.Path.{◌≡◌, sym, ap, subst, ◌∙◌}
-use mathlib.Core.Logic.{◌≢◌, ◌⊎◌}
+use mathlib.Core.Logic.{◌≢◌, ◌⊎◌, inl, inr, ⊎_elim}
 use mathlib.Core.Bool.{Bool, true, false, cond, ◌||◌}
 use mathlib.Core.List.{List}
 use native.Mathlib.Omega.{arith}
@@ -12,16 +12,18 @@ use borrow.Author.Tests.{le-ltb}
 use lib.Dec.{ltb}
 use lib.ListN.{length, take, drop}
 use lib.Seq.{take_at}
+use Rattle.std.specs.Prelude.{Result, Ok, Err}
 use Rattle.paper.specs.Over.{over}
+use Rattle.paper.specs.Refusal.{number_of}
 use Rattle.paper.specs.Told.{given}
-use Rattle.paper.proofs.Telling.{given_one}
+use Rattle.paper.specs.declared.refusal.Refusal.{Refusal}
+use Rattle.paper.specs.declared.refusal.Refusal.TheVariants.{WrongSize, OutsideField, ShortOutput}
+use Rattle.paper.proofs.Refusing.{err_exactly}
+use Rattle.paper.proofs.Telling.{given_one, number_one, number_some}
 use Rattle.paper.proofs.Exactly.{Exactly, then, both, below, not_below, or_exactly, nor_exactly, joined, same_number, here}
 use Rattle.paper.proofs.Threefold.{threefold, threefold_1, threefold_6, threefold_5, threefold_0, threefold_only}
 use Rattle.instructions.specs.declared.added.CommandSet.{CommandSet}
 use Rattle.bus.specs.Cycles.{cycles_of}
-use Rattle.planner.specs.declared.count.Count.{Count}
-use Rattle.planner.specs.declared.count.Count.TheVariants as count
-use Rattle.planner.proofs.Promised.{count_refused}
 use Rattle.jobs.specs.Header.{header_of}
 use Rattle.jobs.specs.declared.header.Job.{Job}
 use Rattle.recorder.specs.Cycles.{any_wrong}
@@ -29,7 +31,7 @@ use Rattle.recorder.specs.Job.{most_pictures, job_bytes, wrong_pictures, job_ref
 use Rattle.recorder.proofs.CycleBytes.{Bytes}
 use Rattle.recorder.proofs.Answers.{job_length}
 use Rattle.recorder.proofs.JobFile.{cycle_part, part_cycles, most_two, JobRead, job_read, job_again}
-use Rattle.recorder.proofs.Promised.{written_number, written_refused_leaves, written_all, WrongAmong, wrong_yes, wrong_no, size_no, size_yes}
+use Rattle.recorder.proofs.Promised.{written_number, written_all, WrongAmong, wrong_yes, wrong_no, size_no, size_yes}
 
 module _ (set : CommandSet) (cycles : List ℕ) (p : ℕ) (pictures out : List ℕ) where
   abbrev file : List ℕ
@@ -68,42 +70,45 @@ module _ (set : CommandSet) (cycles : List ℕ) (p : ℕ) (pictures out : List �
   inside : Exactly (outside ≡ false) InsideJob
   inside = nor_exactly many _ (not_below _) (nor_exactly (ltb (most_pictures set) p) _ (not_below p) (wrong_no (cycles_of cycles)))
 
-  module _ (a : Count) (left : List ℕ) (f : IsWrittenJob set cycles p pictures out a left) where
-    numbered : (n : ℕ) → n ≢ 0 → Exactly (a ≡ count.Refused n) (threefold misfit outside brief ≡ n)
-    numbered n h = then (count_refused n a h) (same_number (written_number f ∙ number_is))
+  module _ (a : Result ℕ Refusal) (left : List ℕ) (f : IsWrittenJob set cycles p pictures out a left) where
+    numbered : (r : Refusal) → Exactly (a ≡ Err r) (threefold misfit outside brief ≡ number_of r)
+    numbered r = then (err_exactly a r) (same_number (written_number f ∙ number_is))
 
-    pub job_1 : Exactly (a ≡ count.Refused 1) (length pictures ≢ 1188 * p)
-    job_1 = then (numbered 1 (λ e. omega arith)) (then (threefold_1 misfit outside brief) (size_yes (length pictures) p))
+    pub job_1 : Exactly (a ≡ Err WrongSize) (length pictures ≢ 1188 * p)
+    job_1 = then (numbered WrongSize) (then (threefold_1 misfit outside brief) (size_yes (length pictures) p))
 
-    pub job_6 : Exactly (a ≡ count.Refused 6) ((length pictures ≡ 1188 * p) × OutsideJob)
+    pub job_6 : Exactly (a ≡ Err OutsideField) ((length pictures ≡ 1188 * p) × OutsideJob)
     job_6 =
-        then (numbered 6 (λ e. omega arith))
+        then (numbered OutsideField)
         (then (threefold_6 misfit outside brief)
         (both (size_no (length pictures) p)
         (or_exactly many _ (below _) (or_exactly (ltb (most_pictures set) p) _ (below p) (wrong_yes (cycles_of cycles))))))
 
-    pub job_5 : Exactly (a ≡ count.Refused 5) ((length pictures ≡ 1188 * p) × (InsideJob × (length out < needed)))
+    pub job_5 : Exactly (a ≡ Err ShortOutput) ((length pictures ≡ 1188 * p) × (InsideJob × (length out < needed)))
     job_5 =
-        then (numbered 5 (λ e. omega arith))
+        then (numbered ShortOutput)
         (then (threefold_5 misfit outside brief)
         (both (size_no (length pictures) p)
         (both inside
         (subst (λ (m : ℕ). Exactly (brief ≡ true) (length out < m)) (job_length set (cycles_of cycles) p pictures) (below (length file))))))
 
     -- pictures that fit, good cycles and an output that is long enough: the file
-    pub job_long : length pictures ≡ 1188 * p → InsideJob → needed ≤ length out → (a ≡ count.Bytes (length file)) × (left ≡ over file out)
+    pub job_long : length pictures ≡ 1188 * p → InsideJob → needed ≤ length out → (a ≡ Ok (length file)) × (left ≡ over file out)
     job_long s i h =
         let g : length file ≤ length out = rw (job_length set (cycles_of cycles) p pictures) h in
         written_all f (number_is ∙ rw ((size_no (length pictures) p).1 s, inside.1 i, le-ltb _ _ g))
 
-    pub job_always : length pictures ≡ 1188 * p → InsideJob → 34384 ≤ length out → (a ≡ count.Bytes (length file)) × (left ≡ over file out)
+    pub job_always : length pictures ≡ 1188 * p → InsideJob → 34384 ≤ length out → (a ≡ Ok (length file)) × (left ≡ over file out)
     job_always s i h = job_long s i (omega (arith, i.0, i.1.0, most_two set))
 
-  pub job_only : (n : ℕ) (left : List ℕ) → IsWrittenJob set cycles p pictures out (count.Refused n) left → (n ≡ 1) ⊎ ((n ≡ 6) ⊎ (n ≡ 5))
-  job_only n left f = threefold_only misfit outside brief n (written_refused_leaves f).0 (written_number f ∙ number_is)
+  pub job_only : (r : Refusal) (left : List ℕ) → IsWrittenJob set cycles p pictures out (Err r) left → (r ≡ WrongSize) ⊎ ((r ≡ OutsideField) ⊎ (r ≡ ShortOutput))
+  job_only r left f = ⊎_elim
+      (λ e. inl (number_one r WrongSize e))
+      (λ g. inr (⊎_elim (λ e. inl (number_one r OutsideField e)) (λ e. inr (number_one r ShortOutput e)) g))
+      (threefold_only misfit outside brief (number_of r) (number_some r) (written_number f ∙ number_is))
 
   -- the reader accepts what it writes, and finds in it what was given
-  pub job_back : (n : ℕ) (left : List ℕ) → IsWrittenJob set cycles p pictures out (count.Bytes n) left → JobRead set (cycles_of cycles) p pictures (take n left)
+  pub job_back : (n : ℕ) (left : List ℕ) → IsWrittenJob set cycles p pictures out (Ok n) left → JobRead set (cycles_of cycles) p pictures (take n left)
   job_back n left f =
       let e : job_refusal set (cycles_of cycles) p pictures out ≡ 0 = sym (written_number f) in
       let t = (threefold_0 misfit outside brief).0 (sym number_is ∙ e) in
@@ -118,14 +123,14 @@ module _ (file : List ℕ) (j : Job) (b : Bytes file) (accepted : header_of file
   number_is_5 : job_refusal j.set (cycles_of (cycle_part file j)) j.pictures (file_pictures file j) out ≡ cond (ltb (length out) (length file)) 5 0
   number_is_5 = rw (part_cycles file j accepted) ((job_again file j b accepted).only_short out)
 
-  module _ (a : Count) (left : List ℕ) (f : IsWrittenJob j.set (cycle_part file j) j.pictures (file_pictures file j) out a left) where
+  module _ (a : Result ℕ Refusal) (left : List ℕ) (f : IsWrittenJob j.set (cycle_part file j) j.pictures (file_pictures file j) out a left) where
     -- it is the same file
-    pub file_long : length file ≤ length out → (a ≡ count.Bytes (length file)) × (left ≡ over file out)
+    pub file_long : length file ≤ length out → (a ≡ Ok (length file)) × (left ≡ over file out)
     file_long h =
         let w = written_all f (number_is_5 ∙ rw (le-ltb _ _ h)) in
         rw (part_cycles file j accepted, (job_again file j b accepted).file_again) at w
 
-    pub file_5 : Exactly (a ≡ count.Refused 5) (length out < length file)
+    pub file_5 : Exactly (a ≡ Err ShortOutput) (length out < length file)
     file_5 =
-        then (count_refused 5 a (λ e. omega arith))
+        then (err_exactly a ShortOutput)
         (then (same_number (written_number f ∙ number_is_5)) (then (here (ltb (length out) (length file)) 5 0 (λ e. omega arith)) (below (length file))))

@@ -3,7 +3,7 @@
 -- Assumes nothing.
 use Prim.Native.Nat.{ℕ, ◌≤◌, ◌<◌}
 use mathlib.Core.Path.{◌≡◌, refl, sym, ap, ◌∙◌}
-use mathlib.Core.Logic.{◌≢◌, ◌⊎◌, inl, inr, ⊎_elim}
+use mathlib.Core.Logic.{◌⊎◌, inl, inr, ⊎_elim}
 use mathlib.Core.Bool.{Bool, false, cond, ◌||◌}
 use mathlib.Core.List.{List}
 use native.Mathlib.Omega.{arith}
@@ -11,17 +11,18 @@ use borrow.Author.Tests.{le-ltb}
 use lib.Dec.{ltb}
 use lib.ListN.{length, take, drop}
 use lib.Seq.{take_at}
+use Rattle.std.specs.Prelude.{Result, Ok, Err}
 use Rattle.paper.specs.Over.{over}
+use Rattle.paper.specs.Refusal.{number_of}
 use Rattle.paper.specs.Told.{given}
-use Rattle.paper.proofs.Telling.{given_one}
+use Rattle.paper.specs.declared.refusal.Refusal.{Refusal}
+use Rattle.paper.specs.declared.refusal.Refusal.TheVariants.{OutsideField, ShortOutput}
+use Rattle.paper.proofs.Refusing.{err_exactly}
+use Rattle.paper.proofs.Telling.{given_one, number_one, number_some}
 use Rattle.paper.proofs.Exactly.{Exactly, then, both, below, not_below, or_exactly, nor_exactly, joined, same_number, here, past, nowhere, among}
 use Rattle.bus.specs.Cycles.{cycles_of}
-use Rattle.planner.specs.declared.count.Count.{Count}
-use Rattle.planner.specs.declared.count.Count.TheVariants as count
-use Rattle.planner.proofs.Promised.{count_refused}
 use Rattle.jobs.specs.Header.{header_of}
 use Rattle.jobs.specs.declared.header.Job.{Job}
-use Rattle.jobs.specs.declared.header.Header.TheVariants.{Good}
 use Rattle.jobs.proofs.Scan.{header_holds}
 use Rattle.recorder.specs.Cycles.{any_wrong}
 use Rattle.recorder.specs.Job.{file_cycles}
@@ -29,7 +30,7 @@ use Rattle.recorder.specs.Text.{cycles_text, text_refusal, IsWrittenText, cycles
 use Rattle.recorder.proofs.CycleBytes.{Bytes, cycles_good}
 use Rattle.recorder.proofs.JobFile.{cycle_part, part_cycles, file_right, from_count}
 use Rattle.recorder.proofs.Meaning.{text_most_lem, text_again, has_good}
-use Rattle.recorder.proofs.Promised.{written_number, written_refused_leaves, written_all, WrongAmong, wrong_yes, wrong_no}
+use Rattle.recorder.proofs.Promised.{written_number, written_all, WrongAmong, wrong_yes, wrong_no}
 
 module _ (cycles out : List ℕ) where
   abbrev text : List ℕ
@@ -55,36 +56,36 @@ module _ (cycles out : List ℕ) where
   inside : Exactly (outside ≡ false) InsideText
   inside = nor_exactly (ltb 16000 (length (cycles_of cycles))) (any_wrong (cycles_of cycles)) (not_below _) (wrong_no (cycles_of cycles))
 
-  module _ (a : Count) (left : List ℕ) (f : IsWrittenText cycles out a left) where
-    numbered : (n : ℕ) → n ≢ 0 → Exactly (a ≡ count.Refused n) (cond outside 6 (cond brief 5 0) ≡ n)
-    numbered n h = then (count_refused n a h) (same_number (written_number f ∙ number_is))
+  module _ (a : Result ℕ Refusal) (left : List ℕ) (f : IsWrittenText cycles out a left) where
+    numbered : (r : Refusal) → Exactly (a ≡ Err r) (cond outside 6 (cond brief 5 0) ≡ number_of r)
+    numbered r = then (err_exactly a r) (same_number (written_number f ∙ number_is))
 
-    pub text_6 : Exactly (a ≡ count.Refused 6) OutsideText
+    pub text_6 : Exactly (a ≡ Err OutsideField) OutsideText
     text_6 =
-        then (numbered 6 (λ e. omega arith))
+        then (numbered OutsideField)
         (then (here outside 6 (cond brief 5 0) (nowhere brief 5 0 6 (λ e. omega arith) (λ e. omega arith)))
         (or_exactly (ltb 16000 (length (cycles_of cycles))) (any_wrong (cycles_of cycles)) (below _) (wrong_yes (cycles_of cycles))))
 
-    pub text_5 : Exactly (a ≡ count.Refused 5) (InsideText × (length out < length text))
+    pub text_5 : Exactly (a ≡ Err ShortOutput) (InsideText × (length out < length text))
     text_5 =
-        then (numbered 5 (λ e. omega arith))
+        then (numbered ShortOutput)
         (then (past outside 6 (cond brief 5 0) 5 (λ e. omega arith)) (both inside (then (here brief 5 0 (λ e. omega arith)) (below (length text)))))
 
     -- a good list and an output that is long enough: the text
-    pub text_long : InsideText → length text ≤ length out → (a ≡ count.Bytes (length text)) × (left ≡ over text out)
+    pub text_long : InsideText → length text ≤ length out → (a ≡ Ok (length text)) × (left ≡ over text out)
     text_long i h = written_all f (number_is ∙ rw (inside.1 i, le-ltb _ _ h))
 
-    pub text_always : InsideText → 80000 ≤ length out → (a ≡ count.Bytes (length text)) × (left ≡ over text out)
+    pub text_always : InsideText → 80000 ≤ length out → (a ≡ Ok (length text)) × (left ≡ over text out)
     text_always i h = text_long i (omega (arith, text_most_lem (cycles_of cycles), i.0))
 
-  pub text_only : (n : ℕ) (left : List ℕ) → IsWrittenText cycles out (count.Refused n) left → (n ≡ 6) ⊎ (n ≡ 5)
-  text_only n left f = ⊎_elim
-      inl
-      (λ e. ⊎_elim inr (λ z. absurd ((written_refused_leaves f).0 z)) (among brief 5 0 n e))
-      (among outside 6 (cond brief 5 0) n (written_number f ∙ number_is))
+  pub text_only : (r : Refusal) (left : List ℕ) → IsWrittenText cycles out (Err r) left → (r ≡ OutsideField) ⊎ (r ≡ ShortOutput)
+  text_only r left f = ⊎_elim
+      (λ e. inl (number_one r OutsideField e))
+      (λ e. ⊎_elim (λ s. inr (number_one r ShortOutput s)) (λ z. absurd (number_some r z)) (among brief 5 0 (number_of r) e))
+      (among outside 6 (cond brief 5 0) (number_of r) (written_number f ∙ number_is))
 
   -- what it writes is no bad text, and is read as the cycles that it was given
-  pub text_read : (n : ℕ) (left : List ℕ) → Bytes cycles → IsWrittenText cycles out (count.Bytes n) left
+  pub text_read : (n : ℕ) (left : List ℕ) → Bytes cycles → IsWrittenText cycles out (Ok n) left
       → (bad_text (take n left) ≡ false) × (cycles_in (take n left) ≡ cycles_of cycles)
   text_read n left b f =
       let e : text_refusal (cycles_of cycles) out ≡ 0 = sym (written_number f) in
@@ -96,11 +97,11 @@ module _ (cycles out : List ℕ) where
       (has_good (take n left) (cycles_of cycles) g (sym whole), ap cycles_in whole ∙ text_again (cycles_of cycles) g)
 
 -- the text of a job's cycles: a file that the reader accepts, and 80,000 bytes, always get it
-pub file_text : (file : List ℕ) (j : Job) (out : List ℕ) (a : Count) (left : List ℕ) → header_of file ≡ given j
+pub file_text : (file : List ℕ) (j : Job) (out : List ℕ) (a : Result ℕ Refusal) (left : List ℕ) → header_of file ≡ given j
     → IsWrittenText (cycle_part file j) out a left → 80000 ≤ length out
-    → (a ≡ count.Bytes (length (cycles_text (file_cycles file j)))) × (left ≡ over (cycles_text (file_cycles file j)) out)
+    → (a ≡ Ok (length (cycles_text (file_cycles file j)))) × (left ≡ over (cycles_text (file_cycles file j)) out)
 file_text file j out a left e f h =
     let p = part_cycles file j e in
     let right : WrongAmong (cycles_of (cycle_part file j)) → ⊥ = (wrong_no (cycles_of (cycle_part file j))).0 (rw p (file_right file j e)) in
-    let few : length (cycles_of (cycle_part file j)) ≤ 16000 = rw (p, from_count file 0 j.cycles) (header_holds file {a = Good j} (record { tells = sym e }) refl).few in
+    let few : length (cycles_of (cycle_part file j)) ≤ 16000 = rw (p, from_count file 0 j.cycles) (header_holds file {a = Ok j} (record { tells = sym e }) refl).few in
     rw p at (text_always (cycle_part file j) out a left f (few, right) h)

@@ -1,21 +1,24 @@
 -- Reading a text a line at a time: before each line, the lines from there on complete the count, the place and the output.
 -- Assumes nothing.
 use Prim.Native.Nat.{ℕ, zero, suc, ◌+◌, ◌*◌, ◌-◌, ◌≤◌, ◌<◌}
-use mathlib.Core.Path.{◌≡◌, refl, sym, ap, subst, ◌∙◌}
+use mathlib.Core.Path.{◌≡◌, refl, sym, ap, ◌∙◌}
 use mathlib.Core.Bool.{true, false}
+use mathlib.Core.Option.{none, some}
 use mathlib.Core.List.{List, [], ◌∷◌, ◌++◌}
 use native.Mathlib.Nat.{zero-add}
 use native.Mathlib.Omega.{arith}
-use lib.Dec.{T}
-use lib.ListN.{length, take, drop, set, length-append, length-drop, drop_of_length-le}
+use lib.ListN.{length, take, drop, set, length-append, length-drop}
 use lib.Seq.{sets, drop-drop, take_all}
+use Rattle.std.specs.Prelude.{Option as Maybe, Some, None}
+use Rattle.paper.specs.Kind.{kind_number}
 use Rattle.paper.proofs.Cases.{split}
 use Rattle.paper.proofs.Left.{one_fewer}
+use Rattle.paper.proofs.Telling.{some_one, none_some}
 use Rattle.controller.specs.Run.{BusCycle}
 use Rattle.recorder.specs.Cycles.{good_cycle, bytes_of}
 use Rattle.recorder.specs.Line.{cycle_text, kind_by, cycle_in, line_in}
 use Rattle.recorder.specs.Text.{cycles_text, front_cycles, cycles_in}
-use Rattle.recorder.specs.Scan.{said, no_line, line_for, Fronted}
+use Rattle.recorder.specs.Scan.{told_line, line_for, Fronted}
 use Rattle.recorder.specs.declared.line.Line.{Line}
 use Rattle.recorder.proofs.CycleBytes.{bytes_none, bytes_next}
 use Rattle.recorder.proofs.Lines.{line_length, Stands, stands}
@@ -52,27 +55,31 @@ stands_fits t s =
 
 -- ---- the line that the code hands on
 
-pub handed_bad : (t : List ℕ) (l : Line) → l ≡ line_for t → l.bad ≡ true → line_in t ≡ false
+pub handed_none : (t : List ℕ) {l : Maybe Line} → told_line l ≡ line_for t → l ≡ None → line_in t ≡ false
 unfolding line_for
-handed_bad t l e b = split (line_in t)
-    (λ y. let z : false ≡ true = ap (λ (x : Line). x.bad) (rw y at (sym e)) ∙ b in y ∙ sym z)
+handed_none t e n = split (line_in t)
+    (λ y. (
+    let f : none ≡ some (cycle_in t, length (cycle_text (cycle_in t))) = ap told_line (sym n) ∙ e ∙ rw y refl in
+    absurd (none_some f)))
     (λ y. y)
 
--- a good one is the cycle that is read
+-- it is the cycle that is read
 pub record Handed (t : List ℕ) (l : Line) : Type 0 where
   pub there : line_in t ≡ true
-  pub cycle : (l.kind, l.value) ≡ cycle_in t
+  pub cycle : (kind_number l.kind, l.value) ≡ cycle_in t
   pub long : l.long ≡ length (cycle_text (cycle_in t))
 
-pub handed : (t : List ℕ) (l : Line) → l ≡ line_for t → l.bad ≡ false → Handed t l
+pub handed : (t : List ℕ) {m : Maybe Line} {l : Line} → told_line m ≡ line_for t → m ≡ Some l → Handed t l
 unfolding line_for
-handed t l e b = split (line_in t)
+handed t {l = l} e n =
+    let f : told_line (Some l) ≡ line_for t = ap told_line (sym n) ∙ e in
+    split (line_in t)
     (λ y. (
-    let f : l ≡ said (cycle_in t).0 (cycle_in t).1 (length (cycle_text (cycle_in t))) = e ∙ rw y refl in
-    record { there = y; cycle = ap (λ (x : Line). (x.kind, x.value)) f; long = ap (λ (x : Line). x.long) f }))
+    let g : ((kind_number l.kind, l.value), l.long) ≡ (cycle_in t, length (cycle_text (cycle_in t))) = some_one (f ∙ rw y refl) in
+    record { there = y; cycle = ap (λ (x : BusCycle × ℕ). x.0) g; long = ap (λ (x : BusCycle × ℕ). x.1) g }))
     (λ y. (
-    let f : l ≡ no_line = e ∙ rw y refl in
-    absurd (subst T (sym (ap (λ (x : Line). x.bad) f) ∙ b) tt)))
+    let g : none ≡ some ((kind_number l.kind, l.value), l.long) = sym (f ∙ rw y refl) in
+    absurd (none_some g)))
 
 -- ---- the loop
 
@@ -109,58 +116,53 @@ module _ (text first out : List ℕ) (i at : ℕ) where
   stopped : line_in (drop at text) ≡ false → Reading text first out i at → Fronted text first out i at
   stopped e r = reads_none (rw (front_end (length text - i) (drop at text) e) at r)
 
-  pub reading_end : length text ≤ at → Reading text first out i at → Fronted text first out i at
-  reading_end h r =
-      let e : line_in (drop at text) ≡ false = rw (drop_of_length-le text h) empty_end in
-      stopped e r
-
-  module _ (l : Line) (e : l ≡ line_for (take (length text - at) (drop at text))) where
-    is : l ≡ line_for (drop at text)
+  module _ (m : Maybe Line) (e : told_line m ≡ line_for (take (length text - at) (drop at text))) where
+    is : told_line m ≡ line_for (drop at text)
     is = e ∙ ap line_for (rest_of text at)
 
-    pub reading_bad : l.bad ≡ true → Reading text first out i at → Fronted text first out i at
-    reading_bad b r = stopped (handed_bad (drop at text) l is b) r
+    pub reading_end : m ≡ None → Reading text first out i at → Fronted text first out i at
+    reading_end n r = stopped (handed_none (drop at text) is n) r
 
-    module _ (good : l.bad ≡ false) where
+    module _ {l : Line} (one : m ≡ Some l) where
       line : Handed (drop at text) l
-      line = handed (drop at text) l is good
+      line = handed (drop at text) is one
 
-      fits : at < length text → at + l.long ≤ length text
+      fits : at ≤ length text → at + l.long ≤ length text
       fits h =
           let a = stands_fits (drop at text) (stands (drop at text) line.there) in
           let b = length-drop at text in
           omega (arith, line.long)
 
-      some : 2 ≤ l.long
-      some = omega (arith, line.long, (line_length (cycle_in (drop at text))).0)
+      far : 2 ≤ l.long
+      far = omega (arith, line.long, (line_length (cycle_in (drop at text))).0)
 
-      reads_next : at < length text → (rest : List BusCycle) → Reads text first out i at (cycle_in (drop at text) ∷ rest)
-          → Reads text first (set (set out (2 * i) l.kind) (2 * i + 1) l.value) (i + 1) (at + l.long) rest
-      reads_next h rest r =
+      reads_next : (rest : List BusCycle) → Reads text first out i at (cycle_in (drop at text) ∷ rest)
+          → Reads text first (set (set out (2 * i) (kind_number l.kind)) (2 * i + 1) l.value) (i + 1) (at + l.long) rest
+      reads_next rest r =
           let a = rw (text_next (cycle_in (drop at text)) rest) at r.place in
           let b = length-append (cycle_text (cycle_in (drop at text))) (cycles_text rest) in
           let c : 2 * (i + 1) ≡ suc (suc (2 * i)) = omega arith in
           let d : 2 * i + 1 ≡ suc (2 * i) = omega arith in
-          let k : l.kind ≡ (cycle_in (drop at text)).0 = ap (λ (x : BusCycle). x.0) line.cycle in
+          let k : kind_number l.kind ≡ (cycle_in (drop at text)).0 = ap (λ (x : BusCycle). x.0) line.cycle in
           let v : l.value ≡ (cycle_in (drop at text)).1 = ap (λ (x : BusCycle). x.1) line.cycle in
           record {
-            inside = fits h;
-            lines = omega (arith, r.lines, some);
+            inside = fits r.inside;
+            lines = omega (arith, r.lines, far);
             count = omega (arith, r.count);
             place = omega (arith, line.long);
             bytes = rw (c, d, k, v) (r.bytes ∙ ap (sets out (2 * i)) (bytes_next (cycle_in (drop at text)) rest));
           }
 
-      pub reading_next : at < length text → Reading text first out i at
-          → Reading text first (set (set out (2 * i) l.kind) (2 * i + 1) l.value) (i + 1) (at + l.long)
-      reading_next h r =
-          let s : i < length text = omega (arith, r.lines) in
+      pub reading_next : Reading text first out i at
+          → Reading text first (set (set out (2 * i) (kind_number l.kind)) (2 * i + 1) l.value) (i + 1) (at + l.long)
+      reading_next r =
+          let s : i < length text = omega (arith, r.lines, far, fits r.inside) in
           let f : front_cycles (length text - i) (drop at text) ≡ cycle_in (drop at text) ∷ front_cycles (length text - (i + 1)) (drop (at + l.long) text)
           = rw (one_fewer i (length text) s, line.long, ← drop-drop (length (cycle_text (cycle_in (drop at text)))) at text)
           (front_next (length text - (i + 1)) (drop at text) line.there) in
-          reads_next h _ (rw f at r)
+          reads_next _ (rw f at r)
 
 -- the place after a line is in the text, and further on
-pub within : {text first out : List ℕ} {i at : ℕ} {l : Line} → Reading text first out i at → l ≡ line_for (take (length text - at) (drop at text)) → l.bad ≡ false
-    → at < length text → (at + l.long ≤ length text) × (2 ≤ l.long)
-within {text} {first} {out} {i} {at} {l} r e good h = (fits text first out i at l e good h, some text first out i at l e good)
+pub within : {text first out : List ℕ} {i at : ℕ} {m : Maybe Line} {l : Line} → Reading text first out i at → told_line m ≡ line_for (take (length text - at) (drop at text))
+    → m ≡ Some l → (at + l.long ≤ length text) × (2 ≤ l.long)
+within {text} {first} {out} {i} {at} {m} r e one = (fits text first out i at m e one r.inside, far text first out i at m e one)

@@ -1,12 +1,12 @@
 -- A job file, written: the header, the cycles, the pictures. And what the reader of job files takes from one.
 -- Assumes nothing.
-use Rattle.std.specs.Prelude.{ℕ, zero, suc, ◌+◌, ◌*◌, ◌/◌, ◌%◌, Bool, cond, not, List, [], ◌∷◌, ◌++◌, length, drop, ltb, eqb}
+use Rattle.std.specs.Prelude.{ℕ, zero, suc, ◌+◌, ◌*◌, ◌/◌, ◌%◌, Bool, cond, not, List, [], ◌∷◌, ◌++◌, length, drop, ltb, eqb, Result}
 use Rattle.paper.specs.Refusal.{wrong_size, short_output, outside_field}
+use Rattle.paper.specs.declared.refusal.Refusal.{Refusal}
 use Rattle.instructions.specs.Added.{is_new}
 use Rattle.instructions.specs.declared.added.CommandSet.{CommandSet}
 use Rattle.controller.specs.Run.{BusCycle}
 use Rattle.bus.specs.Cycles.{cycles_of}
-use Rattle.planner.specs.declared.count.Count.{Count}
 use Rattle.jobs.specs.Header.{cycle_at}
 use Rattle.jobs.specs.declared.header.Job.{Job}
 use Rattle.recorder.specs.Cycles.{any_wrong, bytes_of}
@@ -45,7 +45,7 @@ job_refusal set xs count pictures out =
     (cond (ltb (length out) (length (job_bytes set xs count pictures))) short_output 0))))
 
 -- what write_job promises
-abbrev pub IsWrittenJob : CommandSet → List ℕ → ℕ → List ℕ → List ℕ → Count → List ℕ → Type 0
+abbrev pub IsWrittenJob : CommandSet → List ℕ → ℕ → List ℕ → List ℕ → Result ℕ Refusal → List ℕ → Type 0
 IsWrittenJob set cycles count pictures out a left =
     Written (job_refusal set (cycles_of cycles) count pictures out) (job_bytes set (cycles_of cycles) count pictures) out a left
 

@@ -1,17 +1,17 @@
 -- The text form of a list of cycles, written and read, and what is refused.
 -- Assumes nothing.
-use Rattle.std.specs.Prelude.{ℕ, zero, suc, ◌*◌, ◌≡◌, Bool, cond, List, [], ◌∷◌, ◌++◌, length, drop, ltb, eqb}
+use Rattle.std.specs.Prelude.{ℕ, zero, suc, ◌*◌, ◌≡◌, Bool, cond, List, [], ◌∷◌, ◌++◌, length, drop, ltb, eqb, Result, Ok, Err}
 use Rattle.std.proofs.Math.Option.{Option, none, some}
-use Rattle.paper.specs.Refusal.{short_output, outside_field, no_text}
+use Rattle.paper.specs.Refusal.{short_output, outside_field, no_text, number_of}
+use Rattle.paper.specs.declared.refusal.Refusal.{Refusal}
 use Rattle.paper.specs.Over.{over}
 use Rattle.controller.specs.Run.{BusCycle}
 use Rattle.bus.specs.Cycles.{cycles_of}
-use Rattle.planner.specs.declared.count.Count.{Count}
 use Rattle.recorder.specs.Cycles.{any_wrong, bytes_of}
 use Rattle.recorder.specs.Line.{cycle_text, cycle_in, line_in}
 use Rattle.recorder.specs.Written.{Written}
-use Rattle.recorder.specs.declared.text.Lines.{Lines}
-use Rattle.recorder.specs.declared.text.Lines.TheVariants.{Cycles, BadLine, Refused}
+use Rattle.recorder.specs.declared.text.Unread.{Unread}
+use Rattle.recorder.specs.declared.text.Unread.TheVariants.{BadLine, Refused}
 
 -- one cycle per line
 unfoldable pub cycles_text : List BusCycle → List ℕ
@@ -28,7 +28,7 @@ text_refusal xs out =
     (cond (ltb (length out) (length (cycles_text xs))) short_output 0))
 
 -- what write_text promises
-abbrev pub IsWrittenText : List ℕ → List ℕ → Count → List ℕ → Type 0
+abbrev pub IsWrittenText : List ℕ → List ℕ → Result ℕ Refusal → List ℕ → Type 0
 IsWrittenText cycles out a left = Written (text_refusal (cycles_of cycles) out) (cycles_text (cycles_of cycles)) out a left
 
 -- ---- read
@@ -60,16 +60,16 @@ pub record ToldLines : Type 0 where
   pub cycles : Option ℕ
   pub line : Option ℕ
 
-abbrev pub told_lines : Lines → ToldLines
-told_lines (Cycles n) = record { number = 0; cycles = some n; line = none }
-told_lines (BadLine n) = record { number = no_text; cycles = none; line = some n }
-told_lines (Refused n) = record { number = n; cycles = none; line = none }
+abbrev pub told_lines : Result ℕ Unread → ToldLines
+told_lines (Ok n) = record { number = 0; cycles = some n; line = none }
+told_lines (Err (BadLine n)) = record { number = no_text; cycles = none; line = some n }
+told_lines (Err (Refused r)) = record { number = number_of r; cycles = none; line = none }
 
 -- what is told of n lines and a number: they are all there are, or the line behind them is bad
 abbrev pub told_by : ℕ → ℕ → ToldLines
 told_by number n = record { number = number; cycles = cond (eqb number 0) (some n) none; line = cond (eqb number no_text) (some n) none }
 
 -- what read_text promises
-pub record IsReadText (text out : List ℕ) (a : Lines) (left : List ℕ) : Type 0 where
+pub record IsReadText (text out : List ℕ) (a : Result ℕ Unread) (left : List ℕ) : Type 0 where
   pub tells : told_lines a ≡ told_by (read_refusal text out) (length (cycles_in text))
   pub leaves : left ≡ cond (eqb (read_refusal text out) 0) (over (bytes_of (cycles_in text)) out) out

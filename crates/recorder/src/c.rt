@@ -2,36 +2,40 @@
 // refusal leaves them as they were, but for the bad line's number with 11. The reader of job files and the player stand beside them, so
 // that a tool can read what it writes.
 ghost use Rattle.std.specs.Prelude.{◌≡◌};
+ghost use Rattle.paper.specs.Refusal.{number_of};
 ghost use Rattle.recorder.specs.C.{set_refusal, JobOn, JobOut, TextOut, LinesTold, LinesOut, HeaderOut, PlayOut};
 
 use crate::job::{write_job, wrong_pictures};
-use crate::text::{Lines, read_text, write_text};
-use face::pictures::tell_count;
-use jobs::header::{Header, read_header};
-use jobs::play::{Played, play};
-use paper::refusal::{NO_TEXT, OUTSIDE_FIELD, WRONG_SIZE};
-use planner::count::Count;
-use state::packed::{set_byte, set_of};
+use crate::text::{Unread, read_text, write_text};
+use face::value::tell_value;
+use instructions::added::CommandSet;
+use jobs::header::read_header;
+use jobs::play::play;
+use paper::refusal::Refusal;
 
-// The number that a set that is neither is refused with: 6, but 1 where the pictures are not `count`.
-fn set_refusal(total: usize, count: usize) -> u8
-    ensures { result ≡ set_refusal total count }
+// What a set that is neither is refused with: 6, but 1 where the pictures are not `count`.
+fn set_refusal(total: usize, count: usize) -> Refusal
+    ensures { number_of result ≡ set_refusal total count }
 {
     if wrong_pictures(total, count) {
-        WRONG_SIZE
+        Refusal::WrongSize
     } else {
-        OUTSIDE_FIELD
+        Refusal::OutsideField
     }
 }
 
 // The job of a set by its number.
-fn write_on(set: u8, cycles: &[u8], count: usize, pictures: &[u8], out: &mut [u8]) -> Count
+fn write_on(
+    set: u8,
+    cycles: &[u8],
+    count: usize,
+    pictures: &[u8],
+    out: &mut [u8],
+) -> Result<usize, Refusal>
     ensures { JobOn set cycles.now count pictures.now out.old result out.new }
 {
-    if 1 < set {
-        return Count::Refused(set_refusal(pictures.len(), count));
-    }
-    write_job(set_of(set), cycles, count, pictures, out)
+    let set = CommandSet::try_from(set).map_err(|_| set_refusal(pictures.len(), count))?;
+    write_job(set, cycles, count, pictures, out)
 }
 
 // A job file of a command set, 0 old, 1 new, from cycles and pictures, and its length. Refuses with 1, 6, 5.
@@ -45,30 +49,30 @@ pub fn recorder_write_job(
 ) -> u8
     ensures { JobOut set cycles.now count pictures.now out.old length.old out.new length.new result }
 {
-    tell_count(write_on(set, cycles, count, pictures, out), length)
+    tell_value(write_on(set, cycles, count, pictures, out), length)
 }
 
 // The text of cycles, and its length. Refuses with 6, 5.
 pub fn recorder_write_text(cycles: &[u8], out: &mut [u8], length: &mut usize) -> u8
     ensures { TextOut cycles.now out.old length.old out.new length.new result }
 {
-    tell_count(write_text(cycles, out), length)
+    tell_value(write_text(cycles, out), length)
 }
 
 // How many cycles, or the first bad line's number.
-fn tell_lines(answer: Lines, count: &mut usize, line: &mut usize) -> u8
+fn tell_lines(answer: Result<usize, Unread>, count: &mut usize, line: &mut usize) -> u8
     ensures { LinesTold answer count.old line.old count.new line.new result }
 {
     match answer {
-        Lines::Cycles(cycles) => {
+        Ok(cycles) => {
             *count = cycles;
             0
         }
-        Lines::BadLine(bad) => {
+        Err(Unread::BadLine(bad)) => {
             *line = bad;
-            NO_TEXT
+            Refusal::NoText.into()
         }
-        Lines::Refused(number) => number,
+        Err(Unread::Refused(refusal)) => refusal.into(),
     }
 }
 
@@ -90,14 +94,13 @@ pub fn recorder_read_header(
     ensures { HeaderOut file.now (cycles.old, pictures.old, set.old) (cycles.new, pictures.new, set.new) result }
 {
     match read_header(file) {
-        Header::Good(job) => {
+        Ok(job) => {
             *cycles = job.cycles;
             *pictures = job.pictures;
-            let in_force = job.set;
-            *set = set_byte(in_force);
+            *set = job.set.into();
             0
         }
-        Header::Refused(number) => number,
+        Err(refusal) => refusal.into(),
     }
 }
 
@@ -105,11 +108,5 @@ pub fn recorder_read_header(
 pub fn recorder_play(file: &[u8], out: &mut [u8], length: &mut usize) -> u8
     ensures { PlayOut file.now out.old length.old out.new length.new result }
 {
-    match play(file, out) {
-        Played::Text(n) => {
-            *length = n;
-            0
-        }
-        Played::Refused(number) => number,
-    }
+    tell_value(play(file, out), length)
 }

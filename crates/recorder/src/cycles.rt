@@ -9,12 +9,7 @@ use controller::cycle::not_a_cycle;
 pub(crate) fn wrong_cycles(cycles: &[u8]) -> bool
     ensures { result ≡ any_wrong (cycles_of cycles.now) }
 {
-    let mut i = 0;
-    while i < cycles.len() / 2 {
-        if not_a_cycle(cycles[2 * i], cycles[2 * i + 1]) {
-            return true;
-        }
-        i += 1;
-    }
-    false
+    cycles
+        .chunks_exact(2)
+        .any(|cycle| not_a_cycle(cycle[0], cycle[1]))
 }

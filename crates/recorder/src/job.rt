@@ -1,28 +1,17 @@
 // Job files, written.
-ghost use Rattle.std.specs.Prelude.{◌≡◌, ◌+◌, ◌≤◌, ◌<◌};
-ghost use Rattle.jobs.specs.Output.{Put};
-ghost use Rattle.recorder.specs.Job.{word_bytes, most_pictures, count_field, header_bytes, wrong_pictures, IsWrittenJob};
+ghost use Rattle.std.specs.Prelude.{◌≡◌, ◌≤◌, ◌<◌};
+ghost use Rattle.recorder.specs.Job.{most_pictures, count_field, header_bytes, wrong_pictures, IsWrittenJob};
 
 use crate::cycles::wrong_cycles;
-use crate::put::{put_all, put_byte};
 use instructions::added::{CommandSet, is_new};
-use paper::refusal::{OUTSIDE_FIELD, SHORT_OUTPUT, WRONG_SIZE};
-use planner::count::Count;
+use paper::refusal::Refusal;
 
 // Whether so many bytes are not `count` pictures. No product here can be too large.
+#[tactic(auto, using(crate::proofs::Answers::pictures_test))]
 pub(crate) fn wrong_pictures(total: usize, count: usize) -> bool
     ensures { result ≡ wrong_pictures total count }
 {
     (total / 1188 != count) | (total % 1188 != 0)
-}
-
-// A 16-bit number, low byte first.
-fn put_word(out: &mut [u8], at: usize, n: usize) -> usize
-    requires { (at + 2 ≤ 100000) × (n < 65536) }
-    ensures { Put out.old at (word_bytes n) out.new result 2 }
-{
-    let a = put_byte(out, at, (n % 256) as u8);
-    put_byte(out, a, (n / 256 % 256) as u8)
 }
 
 // The most pictures that a job of a command set can have.
@@ -40,15 +29,16 @@ fn count_field(set: CommandSet, count: usize) -> usize
     if is_new(set) { 256 + count } else { count }
 }
 
-// The header of n cycles, with the picture count field.
-fn put_header(out: &mut [u8], n: usize, field: usize) -> usize
+// The header of n cycles, with the picture count field: four 16-bit numbers, low byte first.
+#[tactic(auto, unfolding(crate::specs::Job::header_bytes, crate::specs::Job::word_bytes))]
+fn header(n: usize, field: usize) -> [u8; 8]
     requires { (n ≤ 16000) × (field < 65536) }
-    ensures { Put out.old 0 (header_bytes n field) out.new result 8 }
+    ensures { result ≡ header_bytes n field }
 {
-    let a1 = put_word(out, 0, n);
-    let a2 = put_word(out, a1, 8);
-    let a3 = put_word(out, a2, field);
-    put_word(out, a3, 8 + 2 * n)
+    let [n0, n1] = (n as u16).to_le_bytes();
+    let [field0, field1] = (field as u16).to_le_bytes();
+    let [pictures0, pictures1] = ((8 + 2 * n) as u16).to_le_bytes();
+    [n0, n1, 8, 0, field0, field1, pictures0, pictures1]
 }
 
 // Writes a job file that powers up in a command set, from cycles and `count` pictures, one behind the other. Answers the file's length;
@@ -61,28 +51,29 @@ pub fn write_job(
     count: usize,
     pictures: &[u8],
     out: &mut [u8],
-) -> Count
+) -> Result<usize, Refusal>
     ensures { IsWrittenJob set cycles.now count pictures.now out.old result out.new }
 {
     let n = cycles.len() / 2;
     if wrong_pictures(pictures.len(), count) {
-        return Count::Refused(WRONG_SIZE);
+        return Err(Refusal::WrongSize);
     }
     if 16000 < n {
-        return Count::Refused(OUTSIDE_FIELD);
+        return Err(Refusal::OutsideField);
     }
     if most_pictures(set) < count {
-        return Count::Refused(OUTSIDE_FIELD);
+        return Err(Refusal::OutsideField);
     }
     if wrong_cycles(cycles) {
-        return Count::Refused(OUTSIDE_FIELD);
+        return Err(Refusal::OutsideField);
     }
-    let total = 8 + 2 * n + pictures.len();
+    let behind = 8 + 2 * n;
+    let total = behind + pictures.len();
     if out.len() < total {
-        return Count::Refused(SHORT_OUTPUT);
+        return Err(Refusal::ShortOutput);
     }
-    let a1 = put_header(out, n, count_field(set, count));
-    let a2 = put_all(out, a1, &cycles[0..2 * n]);
-    put_all(out, a2, pictures);
-    Count::Bytes(total)
+    out[..8].copy_from_slice(&header(n, count_field(set, count)));
+    out[8..behind].copy_from_slice(&cycles[..2 * n]);
+    out[behind..total].copy_from_slice(pictures);
+    Ok(total)
 }

@@ -1,189 +1,130 @@
 // One cycle's line: written, and read in front of a text.
-ghost use Rattle.std.specs.Prelude.{◌≡◌, ◌+◌, ◌*◌, ◌<◌, ◌≤◌, get_or};
-ghost use Rattle.jobs.specs.Text.{digit, hex};
+ghost use Rattle.std.specs.Prelude.{◌≡◌, ◌+◌, ◌*◌, ◌<◌, ◌≤◌, get_or, MatchOption};
+ghost use Rattle.paper.specs.Kind.{kind_number};
 ghost use Rattle.jobs.specs.Output.{Put};
 ghost use Rattle.recorder.specs.Line.{letter_of, cycle_text, kind_by, digit_by};
-ghost use Rattle.recorder.specs.Scan.{no_line, short_line, long_line, line_for};
+ghost use Rattle.recorder.specs.Scan.{told_kind, told_line, short_line, long_line, line_for};
 
-use crate::put::put_byte;
+use crate::put::put_all;
+use jobs::text::hex;
+use paper::kind::Kind;
 
-// The line in front of a text: the cycle that it says and how many bytes it takes, or that it says none.
+// The line in front of a text: the cycle that it says and how many bytes it takes.
 #[derive(Clone, Copy)]
 pub(crate) struct Line {
-    pub bad: bool,
-    pub kind: u8,
+    pub kind: Kind,
     pub value: u8,
     pub long: usize,
 }
 
-// The character of a digit below 16.
-fn digit(d: usize) -> u8
-    requires { d < 16 }
-    ensures { result ≡ digit d }
-{
-    let digits = b"0123456789abcdef";
-    digits[d]
-}
-
-// A byte as two hex digits.
-fn put_hex(out: &mut [u8], at: usize, byte: u8) -> usize
-    requires { at + 2 ≤ 100000 }
-    ensures { Put out.old at (hex byte) out.new result 2 }
-{
-    let b = byte as usize;
-    let a = put_byte(out, at, digit(b / 16));
-    put_byte(out, a, digit(b % 16))
-}
-
-// The letter of a kind.
+// The letter of a kind, by its number: what is put are the bytes of a list, and to make a kind of each could fail.
 #[tactic(auto, using(paper::proofs::Tests::tests), unfolding(crate::specs::Line::letter_of))]
 fn letter_of(kind: u8) -> u8
     ensures { result ≡ letter_of kind }
 {
-    if kind == 0 {
-        return b'i';
+    match kind {
+        0 => b'i',
+        1 => b'd',
+        2 => b's',
+        3 => b'r',
+        4 => b'l',
+        _ => b'h',
     }
-    if kind == 1 {
-        return b'd';
-    }
-    if kind == 2 {
-        return b's';
-    }
-    if kind == 3 {
-        return b'r';
-    }
-    if kind == 4 {
-        return b'l';
-    }
-    b'h'
 }
 
 // The line of a cycle.
+#[tactic(auto, using(paper::proofs::Tests::tests), unfolding(crate::specs::Line::cycle_text, jobs::specs::Text::hex))]
 pub(crate) fn put_line(out: &mut [u8], at: usize, kind: u8, value: u8) -> usize
     requires { at + 5 ≤ 100000 }
     ensures { Put out.old at (cycle_text (kind, value)) out.new result 5 }
 {
-    let a1 = put_byte(out, at, letter_of(kind));
+    let letter = letter_of(kind);
     if kind < 2 {
-        let a2 = put_byte(out, a1, b' ');
-        let a3 = put_hex(out, a2, value);
-        return put_byte(out, a3, b'\n');
+        let [high, low] = hex(value);
+        return put_all(out, at, &[letter, b' ', high, low, b'\n']);
     }
-    put_byte(out, a1, b'\n')
+    put_all(out, at, &[letter, b'\n'])
 }
 
-// Byte i, 0 where there is none.
-fn byte_at(bytes: &[u8], i: usize) -> u8
-    ensures { result ≡ get_or bytes.now i 0 }
-{
-    if i < bytes.len() { bytes[i] } else { 0 }
-}
-
-// The kind of a letter, 6 where it is none of the six.
+// The kind of a letter.
 #[tactic(auto, using(paper::proofs::Tests::tests), unfolding(crate::specs::Line::kind_by))]
-fn kind_by(letter: u8) -> u8
-    ensures { result ≡ kind_by letter }
+fn kind_by(letter: u8) -> Option<Kind>
+    ensures { told_kind result ≡ kind_by letter }
 {
-    if letter == b'i' {
-        return 0;
+    match letter {
+        b'i' => Some(Kind::Instruction),
+        b'd' => Some(Kind::DataWrite),
+        b's' => Some(Kind::StatusRead),
+        b'r' => Some(Kind::DataRead),
+        b'l' => Some(Kind::PinLow),
+        b'h' => Some(Kind::PinHigh),
+        _ => None,
     }
-    if letter == b'd' {
-        return 1;
-    }
-    if letter == b's' {
-        return 2;
-    }
-    if letter == b'r' {
-        return 3;
-    }
-    if letter == b'l' {
-        return 4;
-    }
-    if letter == b'h' {
-        return 5;
-    }
-    6
 }
 
-// What a lower-case hex digit counts, 256 where it is none.
-fn digit_by(letter: u8) -> usize
-    ensures { (result ≡ digit_by letter) × (result ≤ 256) }
+// What a lower-case hex digit counts; std's `to_digit` takes upper case too.
+#[tactic(auto, using(paper::proofs::Tests::tests), unfolding(crate::specs::Line::digit_by))]
+fn digit_by(letter: u8) -> Option<u8>
+    ensures { MatchOption result (256 ≡ digit_by letter) (λ d. (d ≡ digit_by letter) × (d < 16)) }
 {
-    if letter < b'0' {
-        return 256;
+    match letter {
+        b'0'..=b'9' => Some(letter - b'0'),
+        b'a'..=b'f' => Some(letter - b'a' + 10),
+        _ => None,
     }
-    if letter <= b'9' {
-        return (letter - b'0') as usize;
-    }
-    if letter < b'a' {
-        return 256;
-    }
-    if letter <= b'f' {
-        return (letter - b'a' + 10) as usize;
-    }
-    256
 }
 
-// No cycle's line.
-fn no_line() -> Line
-    ensures { result ≡ no_line }
+// Byte i, 0 where there is none: no line has a 0.
+fn byte_at(text: &[u8], i: usize) -> u8
+    ensures { result ≡ get_or text.now i 0 }
 {
-    Line {
-        bad: true,
-        kind: 0,
-        value: 0,
-        long: 0,
-    }
+    text.get(i).copied().unwrap_or(0)
 }
 
 // A line of a letter and a newline.
-fn short_line(kind: u8, end: u8) -> Line
-    ensures { result ≡ short_line kind end }
+#[tactic(auto, using(paper::proofs::Tests::tests), unfolding(crate::specs::Scan::short_line))]
+fn short_line(kind: Kind, end: u8) -> Option<Line>
+    ensures { told_line result ≡ short_line (kind_number kind) end }
 {
     if end != b'\n' {
-        return no_line();
+        return None;
     }
-    Line {
-        bad: false,
+    Some(Line {
         kind,
         value: 0,
         long: 2,
-    }
+    })
 }
 
-// A line of a letter, a space, two digits and a newline. What is no digit makes a value that no byte has.
-fn long_line(kind: u8, space: u8, high: u8, low: u8, end: u8) -> Line
-    ensures { result ≡ long_line kind space (16 * digit_by high + digit_by low) end }
+// A line of a letter, a space, two digits and a newline.
+#[tactic(auto, using(paper::proofs::Tests::tests), unfolding(crate::specs::Scan::long_line))]
+fn long_line(kind: Kind, space: u8, high: u8, low: u8, end: u8) -> Option<Line>
+    ensures { told_line result ≡ long_line (kind_number kind) space (16 * digit_by high + digit_by low) end }
 {
-    let value = 16 * digit_by(high) + digit_by(low);
-    if 255 < value {
-        return no_line();
-    }
+    let value = 16 * digit_by(high)? + digit_by(low)?;
     if (space != b' ') | (end != b'\n') {
-        return no_line();
+        return None;
     }
-    Line {
-        bad: false,
+    Some(Line {
         kind,
-        value: value as u8,
+        value,
         long: 5,
-    }
+    })
 }
 
-// The line in front of a text.
-pub(crate) fn first_line(text: &[u8]) -> Line
-    ensures { result ≡ line_for text.now }
+// The line in front of a text, where it is a cycle's.
+pub(crate) fn first_line(text: &[u8]) -> Option<Line>
+    ensures { told_line result ≡ line_for text.now }
 {
-    let kind = kind_by(byte_at(text, 0));
-    if 5 < kind {
-        return no_line();
+    let kind = kind_by(byte_at(text, 0))?;
+    match kind {
+        Kind::Instruction | Kind::DataWrite => {
+            let space = byte_at(text, 1);
+            let high = byte_at(text, 2);
+            let low = byte_at(text, 3);
+            let end = byte_at(text, 4);
+            long_line(kind, space, high, low, end)
+        }
+        _ => short_line(kind, byte_at(text, 1)),
     }
-    if 1 < kind {
-        return short_line(kind, byte_at(text, 1));
-    }
-    let space = byte_at(text, 1);
-    let high = byte_at(text, 2);
-    let low = byte_at(text, 3);
-    let end = byte_at(text, 4);
-    long_line(kind, space, high, low, end)
 }

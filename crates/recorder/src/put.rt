@@ -1,6 +1,7 @@
 // Bytes put into a lent output from a place on. A byte past the output's end is counted and not stored, so the same calls measure
-// (on any output) and write (on one that is long enough).
-ghost use Rattle.std.specs.Prelude.{◌≡◌, [], ◌∷◌, ◌+◌, ◌<◌, ◌≤◌, length, set};
+// (on any output) and write (on one that is long enough). An output and a place are two parameters, for two functions: what `jobs` has for
+// this, `Text`, is private to it, since its methods have a `requires`, which no public function has.
+ghost use Rattle.std.specs.Prelude.{◌≡◌, ◌+◌, ◌≤◌, length, set};
 ghost use Rattle.jobs.specs.Output.{Put};
 
 // Byte `at` of an output, where there is one.
@@ -12,24 +13,13 @@ pub(crate) fn store(out: &mut [u8], at: usize, byte: u8)
     }
 }
 
-// One byte.
-pub(crate) fn put_byte(out: &mut [u8], at: usize, byte: u8) -> usize
-    requires { at < 100000 }
-    ensures { Put out.old at (byte ∷ []) out.new result 1 }
-{
-    store(out, at, byte);
-    at + 1
-}
-
 // All bytes of a slice.
 pub(crate) fn put_all(out: &mut [u8], at: usize, from: &[u8]) -> usize
     requires { at + length from.now ≤ 100000 }
     ensures { Put out.old at from.now out.new result (length from.now) }
 {
-    let mut i = 0;
-    while i < from.len() {
-        store(out, at + i, from[i]);
-        i += 1;
+    for (i, byte) in from.iter().enumerate() {
+        store(out, at + i, *byte);
     }
-    at + i
+    at + from.len()
 }

@@ -1,22 +1,29 @@
 // The text form of a list of cycles: one line a cycle.
-ghost use Rattle.std.specs.Prelude.{◌/◌, ◌≤◌, length};
+ghost use Rattle.std.specs.Prelude.{◌≡◌, ◌/◌, ◌≤◌, length};
 ghost use Rattle.jobs.specs.Output.{Put};
 ghost use Rattle.bus.specs.Cycles.{cycles_of};
 ghost use Rattle.recorder.specs.Text.{cycles_text, IsWrittenText, IsReadText};
 ghost use Rattle.recorder.specs.Scan.{Fronted};
+ghost use Rattle.recorder.specs.declared.text.Unread.TheVariants.{Refused};
 
 use crate::cycles::wrong_cycles;
 use crate::line::{first_line, put_line};
 use crate::put::store;
-use paper::refusal::{OUTSIDE_FIELD, SHORT_OUTPUT};
-use planner::count::Count;
+use paper::refusal::Refusal;
 
-// How many cycles a text has; or the number of its first bad line, which is refusal 11; or the number of another refusal.
-#[derive(Clone, Copy)]
-pub enum Lines {
-    Cycles(usize),
+// Why a text is not read: the number of its first bad line, which is refusal 11; or another refusal.
+#[derive(Clone, Copy, Debug, PartialEq, Eq)]
+pub enum Unread {
     BadLine(usize),
-    Refused(u8),
+    Refused(Refusal),
+}
+
+impl From<Refusal> for Unread {
+    ghost from_gives = { λ r u. u ≡ Refused r };
+
+    fn from(refusal: Refusal) -> Unread {
+        Unread::Refused(refusal)
+    }
 }
 
 // How many cycles' lines stand in front of a text, and how many bytes they take.
@@ -32,32 +39,29 @@ fn put_lines(cycles: &[u8], out: &mut [u8]) -> usize
     ensures { Put out.old 0 (cycles_text (cycles_of cycles.now)) out.new result 80000 }
 {
     let mut at = 0;
-    let mut i = 0;
-    while i < cycles.len() / 2 {
-        at = put_line(out, at, cycles[2 * i], cycles[2 * i + 1]);
-        i += 1;
+    for cycle in cycles.chunks_exact(2) {
+        at = put_line(out, at, cycle[0], cycle[1]);
     }
     at
 }
 
 // Writes the text of the cycles. Answers its length; refuses with 6 where there are more than 16,000 cycles or one of them is none,
 // then with 5 where the output is shorter than the text, and leaves the output then. A longer output keeps its bytes past the text.
-pub fn write_text(cycles: &[u8], out: &mut [u8]) -> Count
+pub fn write_text(cycles: &[u8], out: &mut [u8]) -> Result<usize, Refusal>
     ensures { IsWrittenText cycles.now out.old result out.new }
 {
     if 16000 < cycles.len() / 2 {
-        return Count::Refused(OUTSIDE_FIELD);
+        return Err(Refusal::OutsideField);
     }
     if wrong_cycles(cycles) {
-        return Count::Refused(OUTSIDE_FIELD);
+        return Err(Refusal::OutsideField);
     }
-    let mut none = [0u8; 1];
-    let n = put_lines(cycles, &mut none);
+    let n = put_lines(cycles, &mut []);
     if out.len() < n {
-        return Count::Refused(SHORT_OUTPUT);
+        return Err(Refusal::ShortOutput);
     }
     put_lines(cycles, out);
-    Count::Bytes(n)
+    Ok(n)
 }
 
 // The lines in front of a text, up to the first that is no cycle's: their cycles, as many as the output has room for.
@@ -66,12 +70,9 @@ fn read_lines(text: &[u8], out: &mut [u8]) -> Front
 {
     let mut at = 0;
     let mut lines = 0;
-    while at < text.len() {
-        let line = first_line(&text[at..]);
-        if line.bad {
-            return Front { lines, at };
-        }
-        store(out, 2 * lines, line.kind);
+    // A line has two bytes or five, so what moves the place on is the line.
+    while let Some(line) = first_line(&text[at..]) {
+        store(out, 2 * lines, line.kind.into());
         store(out, 2 * lines + 1, line.value);
         at += line.long;
         lines += 1;
@@ -82,20 +83,19 @@ fn read_lines(text: &[u8], out: &mut [u8]) -> Front
 // Reads a text: its cycles go into the output. Answers how many there are. Where no list of cycles has the text it answers the number
 // of the first bad line, from 0, which is refusal 11; it refuses with 6 where there are more than 16,000 cycles, then with 5 where the
 // output is shorter than their bytes. It leaves the output then. A longer output keeps its bytes past the cycles.
-pub fn read_text(text: &[u8], out: &mut [u8]) -> Lines
+pub fn read_text(text: &[u8], out: &mut [u8]) -> Result<usize, Unread>
     ensures { IsReadText text.now out.old result out.new }
 {
-    let mut none = [0u8; 1];
-    let seen = read_lines(text, &mut none);
+    let seen = read_lines(text, &mut []);
     if seen.at < text.len() {
-        return Lines::BadLine(seen.lines);
+        return Err(Unread::BadLine(seen.lines));
     }
     if 16000 < seen.lines {
-        return Lines::Refused(OUTSIDE_FIELD);
+        return Err(Refusal::OutsideField.into());
     }
     if out.len() < 2 * seen.lines {
-        return Lines::Refused(SHORT_OUTPUT);
+        return Err(Refusal::ShortOutput.into());
     }
     read_lines(text, out);
-    Lines::Cycles(seen.lines)
+    Ok(seen.lines)
 }

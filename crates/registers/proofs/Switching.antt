@@ -7,40 +7,31 @@ use mathlib.Core.Logic.{◌≢◌, ◌⊎◌, inl, inr, ⊎_elim}
 use mathlib.Core.Bool.{Bool, true, false, cond, not, false≢true}
 use native.Mathlib.Omega.{arith}
 use borrow.Author.Tests.{not-false}
-use Rattle.paper.specs.Refusal.{out_of_range, awaited_at_switch}
-use Rattle.paper.specs.Told.{given, refused}
+use Rattle.std.specs.Prelude.{Result, Ok, Err}
+use Rattle.paper.specs.Refusal.{out_of_range, awaited_at_switch, number_of}
+use Rattle.paper.specs.Told.{given, refused, told}
+use Rattle.paper.specs.declared.refusal.Refusal.{Refusal}
+use Rattle.paper.specs.declared.refusal.Refusal.TheVariants.{OutOfRange, AwaitedAtSwitch}
 use Rattle.paper.specs.declared.sheet.Sheet.{Sheet}
 use Rattle.paper.proofs.Exactly.{Exactly, then, both, same_number, here, past, nowhere}
-use Rattle.paper.proofs.Telling.{apart, answer_of, given_one, refused_one, not_given}
+use Rattle.paper.proofs.Telling.{told_one, number_one, number_some, given_one, refused_one, not_given}
+use Rattle.paper.proofs.Refusing.{ok_told, err_exactly}
 use Rattle.instructions.specs.Added.{of_other}
 use Rattle.instructions.specs.Read.{nothing_awaited}
 use Rattle.instructions.specs.declared.added.CommandSet.{CommandSet}
 use Rattle.instructions.specs.declared.instruction.Awaited.{Awaited}
 use Rattle.instructions.specs.declared.instruction.Awaited.TheVariants as awaited
 use Rattle.registers.specs.Registers.{with_set, outside}
-use Rattle.registers.specs.Switch.{switched, told_switched, IsSwitched}
+use Rattle.registers.specs.Switch.{switched, IsSwitched}
 use Rattle.registers.specs.declared.Registers.{Registers}
-use Rattle.registers.specs.declared.switch.Switched.{Switched}
-use Rattle.registers.specs.declared.switch.Switched.TheVariants.{Done, Refused}
 use Rattle.registers.proofs.InRange.{ranged, ranges, ranges_beside, owned_ranged}
 
 -- ---- one answer
 
-switched_back : (a : Switched) → answer_of Done Refused (told_switched a) ≡ a
-switched_back (Done r) = refl
-switched_back (Refused n) = refl
-
-switched_told : (a b : Switched) → told_switched a ≡ told_switched b → a ≡ b
-switched_told = apart told_switched (answer_of Done Refused) switched_back
-
-pub switched_one : {k : Sheet} {r : Registers} {set : CommandSet} {a b : Switched} → IsSwitched k r set a → IsSwitched k r set b → a ≡ b
-switched_one {a = a} {b = b} f g = switched_told a b (f.tells ∙ sym g.tells)
+pub switched_one : {k : Sheet} {r : Registers} {set : CommandSet} {a b : Result Registers Refusal} → IsSwitched k r set a → IsSwitched k r set b → a ≡ b
+switched_one {a = a} {b = b} f g = told_one a b (f.tells ∙ sym g.tells)
 
 -- ---- its numbers
-
-switched_number : (a : Switched) (n : ℕ) → n ≢ 0 → Exactly (a ≡ Refused n) ((told_switched a).number ≡ n)
-switched_number (Done r) n h = (λ e. ap (λ x. (told_switched x).number) e, λ e. absurd (h (sym e)))
-switched_number (Refused m) n h = (λ e. ap (λ x. (told_switched x).number) e, λ e. ap Refused e)
 
 number_by_lem : (o w : Bool) (r : Registers) → (cond o (refused out_of_range) (cond w (refused awaited_at_switch) (given r))).number ≡ cond o out_of_range (cond w awaited_at_switch 0)
 number_by_lem true w r = refl
@@ -77,56 +68,57 @@ set_inside k r set e q =
     ranged k (with_set r set) (omega (arith, g))
     (owned_ranged r.awaited r.beside (ranges_beside k r e) r.awaited set (ap (of_other set) (is_nothing r.awaited q)))
 
-module _ {k : Sheet} {r : Registers} {set : CommandSet} {a : Switched} (f : IsSwitched k r set a) where
+module _ {k : Sheet} {r : Registers} {set : CommandSet} {a : Result Registers Refusal} (f : IsSwitched k r set a) where
   -- 2, then 13, else none
-  pub number_is : (told_switched a).number ≡ cond (outside k r) out_of_range (cond (not (nothing_awaited r.awaited)) awaited_at_switch 0)
+  pub number_is : (told a).number ≡ cond (outside k r) out_of_range (cond (not (nothing_awaited r.awaited)) awaited_at_switch 0)
   unfolding switched
   number_is = ap (λ t. t.number) f.tells ∙ number_by_lem (outside k r) (not (nothing_awaited r.awaited)) (with_set r set)
 
-  numbered : (n : ℕ) → n ≢ 0 → Exactly (a ≡ Refused n) (cond (outside k r) out_of_range (cond (not (nothing_awaited r.awaited)) awaited_at_switch 0) ≡ n)
-  numbered n h = then (switched_number a n h) (same_number number_is)
+  numbered : (e : Refusal) → Exactly (a ≡ Err e) (cond (outside k r) out_of_range (cond (not (nothing_awaited r.awaited)) awaited_at_switch 0) ≡ number_of e)
+  numbered e = then (err_exactly a e) (same_number number_is)
 
   -- 2 exactly if a register is outside its range
-  pub switch_2 : Exactly (a ≡ Refused out_of_range) (outside k r ≡ true)
+  pub switch_2 : Exactly (a ≡ Err OutOfRange) (outside k r ≡ true)
   switch_2 =
-      then (numbered 2 (λ e. omega arith))
+      then (numbered OutOfRange)
       (here (outside k r) 2 _ (nowhere (not (nothing_awaited r.awaited)) 13 0 2 (λ e. omega arith) (λ e. omega arith)))
 
   -- 13 exactly if none is and a byte of either set is awaited
-  pub switch_13 : Exactly (a ≡ Refused awaited_at_switch) ((outside k r ≡ false) × (not (nothing_awaited r.awaited) ≡ true))
+  pub switch_13 : Exactly (a ≡ Err AwaitedAtSwitch) ((outside k r ≡ false) × (not (nothing_awaited r.awaited) ≡ true))
   switch_13 =
-      then (numbered 13 (λ e. omega arith))
+      then (numbered AwaitedAtSwitch)
       (then (past (outside k r) 2 _ 13 (λ e. omega arith))
       (both (λ e. e, λ e. e) (here (not (nothing_awaited r.awaited)) 13 0 (λ e. omega arith))))
 
   -- else the set is switched, and nothing else moved
-  pub switch_always : outside k r ≡ false → r.awaited ≡ awaited.Nothing → a ≡ Done (with_set r set)
+  pub switch_always : outside k r ≡ false → r.awaited ≡ awaited.Nothing → a ≡ Ok (with_set r set)
   unfolding switched
-  switch_always e q = switched_told a (Done (with_set r set)) (f.tells ∙ rw (e, q))
+  switch_always e q = ok_told a (f.tells ∙ rw (e, q))
 
   -- and registers are given nowhere else
-  pub switched_is : {n : Registers} → a ≡ Done n → (n ≡ with_set r set) × (outside k r ≡ false) × (nothing_awaited r.awaited ≡ true)
+  pub switched_is : {n : Registers} → a ≡ Ok n → (n ≡ with_set r set) × (outside k r ≡ false) × (nothing_awaited r.awaited ≡ true)
   unfolding switched
   switched_is e =
-      let d = done_by (outside k r) (not (nothing_awaited r.awaited)) (sym (ap told_switched e) ∙ f.tells) in
+      let d = done_by (outside k r) (not (nothing_awaited r.awaited)) (sym (ap told e) ∙ f.tells) in
       (d.0, d.1, not-false (nothing_awaited r.awaited) d.2)
 
   -- in range as they were
-  pub switched_inside : {n : Registers} → a ≡ Done n → outside k n ≡ false
+  pub switched_inside : {n : Registers} → a ≡ Ok n → outside k n ≡ false
   switched_inside e = let d = switched_is e in ap (outside k) d.0 ∙ set_inside k r set d.1 d.2
 
   -- no number but 2 and 13
-  pub switch_only : {n : ℕ} → a ≡ Refused n → (n ≡ out_of_range) ⊎ (n ≡ awaited_at_switch)
+  pub switch_only : {e : Refusal} → a ≡ Err e → (e ≡ OutOfRange) ⊎ (e ≡ AwaitedAtSwitch)
   unfolding switched
-  switch_only e = refused_by (outside k r) (not (nothing_awaited r.awaited)) (with_set r set) (sym (ap told_switched e) ∙ f.tells)
+  switch_only {e} q = ⊎_elim (λ n. inl (number_one e OutOfRange n)) (λ n. inr (number_one e AwaitedAtSwitch n))
+      (refused_by (outside k r) (not (nothing_awaited r.awaited)) (with_set r set) (sym (ap told q) ∙ f.tells))
 
-  pub switch_not_0 : {n : ℕ} → a ≡ Refused n → n ≢ 0
-  switch_not_0 e z = ⊎_elim (λ o. omega arith) (λ w. omega arith) (switch_only e)
+  pub switch_not_0 : {e : Refusal} → a ≡ Err e → number_of e ≢ 0
+  switch_not_0 {e} f = number_some e
 
 -- ---- there and back: the registers are those from before
 
-pub switch_back : {k : Sheet} {r n : Registers} {set : CommandSet} {b : Switched} → IsSwitched k r set (Done n) → IsSwitched k n r.beside.set b → b ≡ Done r
+pub switch_back : {k : Sheet} {r n : Registers} {set : CommandSet} {b : Result Registers Refusal} → IsSwitched k r set (Ok n) → IsSwitched k n r.beside.set b → b ≡ Ok r
 switch_back {k} {r} {n} f g =
     let d = switched_is f refl in
     let q : n.awaited ≡ awaited.Nothing = ap (λ x. x.awaited) d.0 ∙ is_nothing r.awaited d.2 in
-    switch_always g (switched_inside f refl) q ∙ ap (λ x. Done (with_set x r.beside.set)) d.0
+    switch_always g (switched_inside f refl) q ∙ ap (λ x. Ok (with_set x r.beside.set)) d.0

@@ -14,11 +14,11 @@ pub mod start;
 pub mod switch;
 
 // A column address, on the memory side.
-#[derive(Clone, Copy)]
+#[derive(Clone, Copy, Debug, PartialEq, Eq)]
 pub struct Column(pub u8);
 
 // Modify-read: off, or on with its saved column.
-#[derive(Clone, Copy)]
+#[derive(Clone, Copy, Debug, PartialEq, Eq)]
 pub enum ModifyRead {
     Off,
     On(Column),
@@ -26,7 +26,7 @@ pub enum ModifyRead {
 
 // What the new command set has beside the registers of the sheet: which set is in force, initial COM0, partial duty, and after how many
 // lines the drive is inverted, 0 for frame inversion.
-#[derive(Clone, Copy)]
+#[derive(Clone, Copy, Debug, PartialEq, Eq)]
 pub struct Beside {
     pub set: CommandSet,
     pub com0: u8,
@@ -34,7 +34,7 @@ pub struct Beside {
     pub inversion: u8,
 }
 
-#[derive(Clone, Copy)]
+#[derive(Clone, Copy, Debug, PartialEq, Eq)]
 pub struct Registers {
     pub page: u8,
     pub column: Column,
@@ -59,7 +59,7 @@ pub struct Registers {
     pub beside: Beside,
 }
 
-// The saved column, 0 where there is none.
+// The saved column, 0 where there is none; `state` has the like, private too: a public one would be a promise more for one line.
 fn saved_column(mode: ModifyRead) -> u8
     ensures { result ≡ saved_of mode }
 {
@@ -73,15 +73,13 @@ fn saved_column(mode: ModifyRead) -> u8
 fn outside_beside(awaited: Awaited, beside: Beside) -> bool
     ensures { result ≡ outside_beside awaited beside }
 {
-    let set = beside.set;
-    let other = of_other(set, awaited);
     (79 < beside.com0)
         | (beside.duty < 17)
         | (81 < beside.duty)
         | (beside.inversion == 1)
         | (beside.inversion == 2)
         | (33 < beside.inversion)
-        | other
+        | of_other(beside.set, awaited)
 }
 
 // Whether a register is outside its range. A bool and the holder never are.
@@ -89,11 +87,7 @@ pub fn outside_range(chip: Sheet, registers: Registers) -> bool
     ensures { result ≡ outside chip registers }
 {
     let columns = chip.highs as usize * 16;
-    let mode = registers.modify_read;
-    let saved = saved_column(mode);
-    let awaited = registers.awaited;
-    let beside = registers.beside;
-    let unset = outside_beside(awaited, beside);
+    let saved = saved_column(registers.modify_read);
     (15 < registers.page)
         | (columns <= registers.column.0 as usize)
         | (63 < registers.start_line)
@@ -102,5 +96,5 @@ pub fn outside_range(chip: Sheet, registers: Registers) -> bool
         | (7 < registers.power)
         | (3 < registers.indicator_value)
         | (columns <= saved as usize)
-        | unset
+        | outside_beside(registers.awaited, registers.beside)
 }

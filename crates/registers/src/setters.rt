@@ -6,189 +6,158 @@ use crate::{Beside, Column, ModifyRead, Registers};
 use instructions::added::CommandSet;
 use instructions::instruction::Awaited;
 
-pub fn with_page(registers: Registers, page: u8) -> Registers
-    ensures { result ≡ with_page registers page }
-{
-    Registers { page, ..registers }
-}
-
-pub fn with_column(registers: Registers, column: Column) -> Registers
-    ensures { result ≡ with_column registers column }
-{
-    Registers {
-        column,
-        ..registers
+impl Registers {
+    pub fn with_page(self, page: u8) -> Registers
+        ensures { result ≡ with_page self page }
+    {
+        Registers { page, ..self }
     }
-}
 
-pub fn with_start_line(registers: Registers, start_line: u8) -> Registers
-    ensures { result ≡ with_start_line registers start_line }
-{
-    Registers {
-        start_line,
-        ..registers
+    pub fn with_column(self, column: Column) -> Registers
+        ensures { result ≡ with_column self column }
+    {
+        Registers { column, ..self }
     }
-}
 
-pub fn with_contrast(registers: Registers, contrast: u8) -> Registers
-    ensures { result ≡ with_contrast registers contrast }
-{
-    Registers {
-        contrast,
-        ..registers
+    pub fn with_start_line(self, start_line: u8) -> Registers
+        ensures { result ≡ with_start_line self start_line }
+    {
+        Registers { start_line, ..self }
     }
-}
 
-pub fn with_resistor(registers: Registers, resistor: u8) -> Registers
-    ensures { result ≡ with_resistor registers resistor }
-{
-    Registers {
-        resistor,
-        ..registers
+    pub fn with_contrast(self, contrast: u8) -> Registers
+        ensures { result ≡ with_contrast self contrast }
+    {
+        Registers { contrast, ..self }
     }
-}
 
-pub fn with_power(registers: Registers, power: u8) -> Registers
-    ensures { result ≡ with_power registers power }
-{
-    Registers { power, ..registers }
-}
-
-pub fn with_bias(registers: Registers, bias: bool) -> Registers
-    ensures { result ≡ with_bias registers bias }
-{
-    Registers { bias, ..registers }
-}
-
-pub fn with_adc(registers: Registers, adc: bool) -> Registers
-    ensures { result ≡ with_adc registers adc }
-{
-    Registers { adc, ..registers }
-}
-
-pub fn with_shl(registers: Registers, shl: bool) -> Registers
-    ensures { result ≡ with_shl registers shl }
-{
-    Registers { shl, ..registers }
-}
-
-pub fn with_reverse(registers: Registers, reverse: bool) -> Registers
-    ensures { result ≡ with_reverse registers reverse }
-{
-    Registers {
-        reverse,
-        ..registers
+    pub fn with_resistor(self, resistor: u8) -> Registers
+        ensures { result ≡ with_resistor self resistor }
+    {
+        Registers { resistor, ..self }
     }
-}
 
-pub fn with_entire(registers: Registers, entire: bool) -> Registers
-    ensures { result ≡ with_entire registers entire }
-{
-    Registers {
-        entire,
-        ..registers
+    pub fn with_power(self, power: u8) -> Registers
+        ensures { result ≡ with_power self power }
+    {
+        Registers { power, ..self }
     }
-}
 
-pub fn with_on(registers: Registers, on: bool) -> Registers
-    ensures { result ≡ with_on registers on }
-{
-    Registers { on, ..registers }
-}
-
-pub fn with_indicator(registers: Registers, indicator: bool) -> Registers
-    ensures { result ≡ with_indicator registers indicator }
-{
-    Registers {
-        indicator,
-        ..registers
+    pub fn with_bias(self, bias: bool) -> Registers
+        ensures { result ≡ with_bias self bias }
+    {
+        Registers { bias, ..self }
     }
-}
 
-pub fn with_indicator_value(registers: Registers, indicator_value: u8) -> Registers
-    ensures { result ≡ with_indicator_value registers indicator_value }
-{
-    Registers {
-        indicator_value,
-        ..registers
+    pub fn with_adc(self, adc: bool) -> Registers
+        ensures { result ≡ with_adc self adc }
+    {
+        Registers { adc, ..self }
     }
-}
 
-pub fn with_holder(registers: Registers, holder: u8) -> Registers
-    ensures { result ≡ with_holder registers holder }
-{
-    Registers {
-        holder,
-        ..registers
+    pub fn with_shl(self, shl: bool) -> Registers
+        ensures { result ≡ with_shl self shl }
+    {
+        Registers { shl, ..self }
     }
-}
 
-pub fn with_pin_low(registers: Registers, pin_low: bool) -> Registers
-    ensures { result ≡ with_pin_low registers pin_low }
-{
-    Registers {
-        pin_low,
-        ..registers
+    pub fn with_reverse(self, reverse: bool) -> Registers
+        ensures { result ≡ with_reverse self reverse }
+    {
+        Registers { reverse, ..self }
     }
-}
 
-pub fn with_awaited(registers: Registers, awaited: Awaited) -> Registers
-    ensures { result ≡ with_awaited registers awaited }
-{
-    Registers {
-        awaited,
-        ..registers
+    pub fn with_entire(self, entire: bool) -> Registers
+        ensures { result ≡ with_entire self entire }
+    {
+        Registers { entire, ..self }
     }
-}
 
-pub fn with_modify_read(registers: Registers, modify_read: ModifyRead) -> Registers
-    ensures { result ≡ with_modify_read registers modify_read }
-{
-    Registers {
-        modify_read,
-        ..registers
+    pub fn with_on(self, on: bool) -> Registers
+        ensures { result ≡ with_on self on }
+    {
+        Registers { on, ..self }
     }
-}
 
-pub fn with_fresh(registers: Registers, fresh: bool) -> Registers
-    ensures { result ≡ with_fresh registers fresh }
-{
-    Registers { fresh, ..registers }
-}
-
-pub fn with_beside(registers: Registers, beside: Beside) -> Registers
-    ensures { result ≡ with_beside registers beside }
-{
-    Registers {
-        beside,
-        ..registers
+    pub fn with_indicator(self, indicator: bool) -> Registers
+        ensures { result ≡ with_indicator self indicator }
+    {
+        Registers { indicator, ..self }
     }
-}
 
-pub fn with_set(registers: Registers, set: CommandSet) -> Registers
-    ensures { result ≡ with_set registers set }
-{
-    let now = registers.beside;
-    with_beside(registers, Beside { set, ..now })
-}
+    pub fn with_indicator_value(self, indicator_value: u8) -> Registers
+        ensures { result ≡ with_indicator_value self indicator_value }
+    {
+        Registers {
+            indicator_value,
+            ..self
+        }
+    }
 
-pub fn with_com0(registers: Registers, com0: u8) -> Registers
-    ensures { result ≡ with_com0 registers com0 }
-{
-    let now = registers.beside;
-    with_beside(registers, Beside { com0, ..now })
-}
+    pub fn with_holder(self, holder: u8) -> Registers
+        ensures { result ≡ with_holder self holder }
+    {
+        Registers { holder, ..self }
+    }
 
-pub fn with_duty(registers: Registers, duty: u8) -> Registers
-    ensures { result ≡ with_duty registers duty }
-{
-    let now = registers.beside;
-    with_beside(registers, Beside { duty, ..now })
-}
+    pub fn with_pin_low(self, pin_low: bool) -> Registers
+        ensures { result ≡ with_pin_low self pin_low }
+    {
+        Registers { pin_low, ..self }
+    }
 
-pub fn with_inversion(registers: Registers, inversion: u8) -> Registers
-    ensures { result ≡ with_inversion registers inversion }
-{
-    let now = registers.beside;
-    with_beside(registers, Beside { inversion, ..now })
+    pub fn with_awaited(self, awaited: Awaited) -> Registers
+        ensures { result ≡ with_awaited self awaited }
+    {
+        Registers { awaited, ..self }
+    }
+
+    pub fn with_modify_read(self, modify_read: ModifyRead) -> Registers
+        ensures { result ≡ with_modify_read self modify_read }
+    {
+        Registers {
+            modify_read,
+            ..self
+        }
+    }
+
+    pub fn with_fresh(self, fresh: bool) -> Registers
+        ensures { result ≡ with_fresh self fresh }
+    {
+        Registers { fresh, ..self }
+    }
+
+    pub fn with_beside(self, beside: Beside) -> Registers
+        ensures { result ≡ with_beside self beside }
+    {
+        Registers { beside, ..self }
+    }
+
+    pub fn with_set(self, set: CommandSet) -> Registers
+        ensures { result ≡ with_set self set }
+    {
+        let now = self.beside;
+        self.with_beside(Beside { set, ..now })
+    }
+
+    pub fn with_com0(self, com0: u8) -> Registers
+        ensures { result ≡ with_com0 self com0 }
+    {
+        let now = self.beside;
+        self.with_beside(Beside { com0, ..now })
+    }
+
+    pub fn with_duty(self, duty: u8) -> Registers
+        ensures { result ≡ with_duty self duty }
+    {
+        let now = self.beside;
+        self.with_beside(Beside { duty, ..now })
+    }
+
+    pub fn with_inversion(self, inversion: u8) -> Registers
+        ensures { result ≡ with_inversion self inversion }
+    {
+        let now = self.beside;
+        self.with_beside(Beside { inversion, ..now })
+    }
 }

@@ -1,13 +1,11 @@
 // The start values, and the registers at power-up.
 ghost use Rattle.std.specs.Prelude.{◌≡◌};
-ghost use Rattle.paper.specs.Sheet.{sheet0713, sheet0717};
 ghost use Rattle.registers.specs.Registers.{start, PoweredUp, PoweredUpIn};
 
-use crate::setters::with_set;
 use crate::{Beside, Column, ModifyRead, Registers};
 use instructions::added::CommandSet;
 use instructions::instruction::Awaited;
-use paper::sheet::{Sheet, ks0713, ks0717};
+use paper::sheet::{Chip, Sheet};
 
 // Every register at its start value in the old command set, with the holder and the pin as given.
 pub fn started(chip: Sheet, holder: u8, low: bool) -> Registers
@@ -42,23 +40,16 @@ pub fn started(chip: Sheet, holder: u8, low: bool) -> Registers
     }
 }
 
-// The KS0713's registers at power-up: pin low then high, holder 0.
-pub fn power_up() -> Registers
-    ensures { PoweredUp sheet0713 result }
+// A chip's registers at power-up: pin low then high, holder 0.
+pub fn power_up<C: Chip>() -> Registers
+    ensures { PoweredUp C.sheet result }
 {
-    started(ks0713(), 0, false)
+    started(C::sheet(), 0, false)
 }
 
 // The same in a command set.
-pub fn power_up_in(set: CommandSet) -> Registers
-    ensures { PoweredUpIn sheet0713 set result }
+pub fn power_up_in<C: Chip>(set: CommandSet) -> Registers
+    ensures { PoweredUpIn C.sheet set result }
 {
-    with_set(power_up(), set)
-}
-
-// The KS0717's registers at power-up: pin low then high, holder 0.
-pub fn power_up_ks0717() -> Registers
-    ensures { PoweredUp sheet0717 result }
-{
-    started(ks0717(), 0, false)
+    power_up::<C>().with_set(set)
 }

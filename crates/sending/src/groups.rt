@@ -2,7 +2,8 @@
 // pages, the bytes of each group, whether the memory is then the update's byte for byte, and where the chip stands.
 use crate::play::{play, same, stands};
 use crate::say::{say, say_refused, words};
-use planner::count::Count;
+use paper::refusal::Refusal;
+use paper::sheet::Ks0713;
 use planner::group::page_group;
 use planner::length::update_length;
 use planner::update::update;
@@ -31,10 +32,10 @@ fn memory() -> [u8; 1188] {
     memory
 }
 
-pub(crate) fn told(rt: &impl Print, count: Count) {
-    match count {
-        Count::Bytes(n) => say(rt, b" ", n),
-        Count::Refused(n) => say_refused(rt, n),
+pub(crate) fn told(rt: &impl Print, answer: Result<usize, Refusal>) {
+    match answer {
+        Ok(n) => say(rt, b" ", n),
+        Err(refusal) => say_refused(rt, refusal.into()),
     }
 }
 
@@ -44,13 +45,13 @@ fn send(rt: &impl Print, registers: Registers, memory: &mut [u8], page: usize) -
     let after = wanted();
     let mut out = [0; 135];
     let mut kinds = [0; 135];
-    match page_group(&before, &after, page, &mut out, &mut kinds) {
-        Count::Bytes(n) => {
+    match page_group::<Ks0713>(&before, &after, page, &mut out, &mut kinds) {
+        Ok(n) => {
             say(rt, b" ", n);
-            play(rt, registers, memory, &out, &kinds, n)
+            play(rt, registers, memory, &out[..n], &kinds[..n])
         }
-        Count::Refused(n) => {
-            say_refused(rt, n);
+        Err(refusal) => {
+            say_refused(rt, refusal.into());
             registers
         }
     }
@@ -62,38 +63,36 @@ fn updated(rt: &impl Print, memory: &mut [u8]) {
     let after = wanted();
     let mut out = [0; 1215];
     let mut kinds = [0; 1215];
-    match update(&before, &after, &mut out, &mut kinds) {
-        Count::Bytes(n) => {
-            play(rt, power_up(), memory, &out, &kinds, n);
+    match update::<Ks0713>(&before, &after, &mut out, &mut kinds) {
+        Ok(n) => {
+            play(rt, power_up::<Ks0713>(), memory, &out[..n], &kinds[..n]);
         }
-        Count::Refused(n) => say_refused(rt, n),
+        Err(refusal) => say_refused(rt, refusal.into()),
     }
 }
 
-fn heading(rt: &impl Print, first: usize, second: usize, third: usize) {
-    say(rt, b"pages ", first);
-    say(rt, b" ", second);
-    say(rt, b" ", third);
+fn heading(rt: &impl Print, pages: &[usize]) {
+    words(rt, b"pages");
+    for page in pages {
+        say(rt, b" ", *page);
+    }
     words(rt, b": bytes");
 }
 
-fn send_three(
-    rt: &impl Print,
-    memory: &mut [u8],
-    first: usize,
-    second: usize,
-    third: usize,
-) -> Registers {
-    let one = send(rt, power_up(), memory, first);
-    let two = send(rt, one, memory, second);
-    send(rt, two, memory, third)
+// The groups of some pages, one after the other, from power-up.
+fn send_all(rt: &impl Print, memory: &mut [u8], pages: &[usize]) -> Registers {
+    let mut registers = power_up::<Ks0713>();
+    for page in pages {
+        registers = send(rt, registers, memory, *page);
+    }
+    registers
 }
 
-fn in_order(rt: &impl Print, first: usize, second: usize, third: usize) {
+fn in_order(rt: &impl Print, pages: &[usize]) {
     let mut groups = memory();
     let mut whole = memory();
-    heading(rt, first, second, third);
-    let registers = send_three(rt, &mut groups, first, second, third);
+    heading(rt, pages);
+    let registers = send_all(rt, &mut groups, pages);
     updated(rt, &mut whole);
     same(rt, &groups, &whole);
     stands(rt, registers);
@@ -104,16 +103,16 @@ pub(crate) fn three_orders(rt: &impl Print) {
     let before = recorded();
     let after = wanted();
     words(rt, b"the update has");
-    told(rt, update_length(&before, &after));
+    told(rt, update_length::<Ks0713>(&before, &after));
     words(rt, b" bytes\n");
-    in_order(rt, 0, 3, 8);
-    in_order(rt, 8, 3, 0);
-    in_order(rt, 3, 8, 0);
+    in_order(rt, &[0, 3, 8]);
+    in_order(rt, &[8, 3, 0]);
+    in_order(rt, &[3, 8, 0]);
 }
 
 // Fewer groups than the update has, and a page that does not differ: the memory is another, and the chip stands elsewhere.
 pub(crate) fn too_few(rt: &impl Print) {
-    in_order(rt, 8, 5, 3);
+    in_order(rt, &[8, 5, 3]);
 }
 
 // No page differs: there is no group, and no output is needed.
@@ -122,6 +121,9 @@ pub(crate) fn equal_pictures(rt: &impl Print) {
     let mut none: [u8; 0] = [];
     let mut kinds: [u8; 0] = [];
     words(rt, b"equal pictures, outputs of 0:");
-    told(rt, page_group(&picture, &picture, 3, &mut none, &mut kinds));
+    told(
+        rt,
+        page_group::<Ks0713>(&picture, &picture, 3, &mut none, &mut kinds),
+    );
     words(rt, b" bytes\n");
 }

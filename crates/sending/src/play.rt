@@ -1,6 +1,7 @@
 // A stream played on the chip, two memories compared, and where the chip stands.
 use crate::say::{say, say_refused, words};
-use bus::run::{Ran, run};
+use bus::run::run;
+use paper::sheet::Ks0713;
 use registers::Registers;
 
 // One cycle. Where it is refused its number is printed, which no group should come to.
@@ -16,7 +17,7 @@ fn turn(
     let mut reads = [0; 1];
     let mut bytes = [0; 1];
     let mut fresh = [0; 1];
-    match run(
+    match run::<Ks0713>(
         registers,
         memory,
         &cycle,
@@ -25,59 +26,37 @@ fn turn(
         &mut bytes,
         &mut fresh,
     ) {
-        Ran::After(after) => {
+        Ok(after) => {
             if numbers[0] != 0 {
                 say_refused(rt, numbers[0]);
             }
             after
         }
-        Ran::Refused(number) => {
-            say_refused(rt, number);
+        Err(refusal) => {
+            say_refused(rt, refusal.into());
             registers
         }
     }
 }
 
-// The first n cycles of a stream, of which both outputs hold as many.
+// The cycles of a stream: their bytes and their kinds.
 pub(crate) fn play(
     rt: &impl Print,
     start: Registers,
     memory: &mut [u8],
-    out: &[u8],
+    bytes: &[u8],
     kinds: &[u8],
-    n: usize,
 ) -> Registers {
-    if out.len() < n {
-        return start;
-    }
-    if kinds.len() < n {
-        return start;
-    }
     let mut registers = start;
-    let mut i = 0;
-    while i < n {
-        registers = turn(rt, registers, memory, kinds[i], out[i]);
-        i += 1;
+    for (kind, byte) in kinds.iter().zip(bytes) {
+        registers = turn(rt, registers, memory, *kind, *byte);
     }
     registers
 }
 
-fn equal(one: &[u8], other: &[u8]) -> bool {
-    if one.len() != other.len() {
-        return false;
-    }
-    let mut same = true;
-    let mut i = 0;
-    while i < one.len() {
-        same = same & (one[i] == other[i]);
-        i += 1;
-    }
-    same
-}
-
 // Whether two memories are the same byte for byte.
 pub(crate) fn same(rt: &impl Print, one: &[u8], other: &[u8]) {
-    if equal(one, other) {
+    if one == other {
         words(rt, b", the update's memory");
     } else {
         words(rt, b", another memory");

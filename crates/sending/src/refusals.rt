@@ -1,7 +1,8 @@
 // What page_group refuses, and in which order: 1, 6, 5. And the KS0717's.
 use crate::groups::{recorded, told, wanted};
 use crate::say::{say, words};
-use planner::group::{page_group, page_group_ks0717};
+use paper::sheet::{Ks0713, Ks0717};
+use planner::group::page_group;
 
 // A page, into outputs as they are lent.
 fn into(rt: &impl Print, page: usize, out: &mut [u8], kinds: &mut [u8]) {
@@ -11,7 +12,7 @@ fn into(rt: &impl Print, page: usize, out: &mut [u8], kinds: &mut [u8]) {
     say(rt, b" into ", out.len());
     say(rt, b" and ", kinds.len());
     words(rt, b":");
-    told(rt, page_group(&before, &after, page, out, kinds));
+    told(rt, page_group::<Ks0713>(&before, &after, page, out, kinds));
     words(rt, b"\n");
 }
 
@@ -39,7 +40,10 @@ fn sized(rt: &impl Print, name: &[u8], before: &[u8], after: &[u8]) {
     let mut out = [0; 135];
     let mut kinds = [0; 135];
     words(rt, name);
-    told(rt, page_group(before, after, 9, &mut out, &mut kinds));
+    told(
+        rt,
+        page_group::<Ks0713>(before, after, 9, &mut out, &mut kinds),
+    );
     words(rt, b"\n");
 }
 
@@ -61,14 +65,14 @@ pub(crate) fn second_chip(rt: &impl Print) {
     words(rt, b"the KS0717, page 4, every column differs:");
     told(
         rt,
-        page_group_ks0717(&before, &after, 4, &mut out, &mut kinds),
+        page_group::<Ks0717>(&before, &after, 4, &mut out, &mut kinds),
     );
     words(rt, b"\n");
     let other = recorded();
     words(rt, b"the KS0717 with a picture of 1,188:");
     told(
         rt,
-        page_group_ks0717(&before, &other, 4, &mut out, &mut kinds),
+        page_group::<Ks0717>(&before, &other, 4, &mut out, &mut kinds),
     );
     words(rt, b"\n");
 }

@@ -5,6 +5,7 @@ use Rattle.instructions.specs.declared.instruction.Awaited.{Awaited}
 use Rattle.instructions.specs.declared.instruction.Awaited.TheVariants as awaited
 use Rattle.instructions.specs.declared.added.CommandSet.{CommandSet}
 use Rattle.instructions.specs.declared.added.CommandSet.TheVariants.{Old, New}
+pub use Rattle.instructions.specs.Numbers.{awaited_byte, set_byte}
 use Rattle.registers.specs.Beside.{besides}
 use Rattle.registers.specs.Registers.{regs, column}
 use Rattle.registers.specs.declared.Beside.{Beside}
@@ -31,15 +32,6 @@ saved_byte (On c) = c.0
 abbrev pub modify_of : ℕ → ℕ → ModifyRead
 modify_of b saved = cond (eqb b 1) (On (column saved)) Off
 
--- which second byte is awaited: 0 nothing, 1 contrast, 2 indicator, 3 initial COM0, 4 duty, 5 inversion
-abbrev pub awaited_byte : Awaited → ℕ
-awaited_byte awaited.Nothing = 0
-awaited_byte awaited.Contrast = 1
-awaited_byte awaited.Indicator = 2
-awaited_byte awaited.Com0 = 3
-awaited_byte awaited.Duty = 4
-awaited_byte awaited.Inversion = 5
-
 abbrev pub awaited_of : ℕ → Awaited
 awaited_of b =
     cond (eqb b 1) awaited.Contrast
@@ -48,11 +40,6 @@ awaited_of b =
     (cond (eqb b 4) awaited.Duty
     (cond (eqb b 5) awaited.Inversion
     awaited.Nothing))))
-
--- which command set is in force: 0 old, 1 new
-abbrev pub set_byte : CommandSet → ℕ
-set_byte Old = 0
-set_byte New = 1
 
 abbrev pub set_of : ℕ → CommandSet
 set_of b = cond (eqb b 1) New Old

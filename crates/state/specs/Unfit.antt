@@ -1,7 +1,10 @@
 -- Which bytes stand for no registers.
 -- Assumes nothing.
-use Rattle.std.specs.Prelude.{ℕ, zero, suc, ◌+◌, Bool, false, cond, ◌&&◌, ◌||◌, List, get_or, ltb, eqb}
-use Rattle.paper.specs.Refusal.{wrong_size, out_of_range}
+use Rattle.std.specs.Prelude.{ℕ, zero, suc, ◌+◌, ◌≡◌, Bool, true, false, cond, ◌&&◌, ◌||◌, List, get_or, ltb, eqb, Result, MatchResult}
+use Rattle.paper.specs.Refusal.{wrong_size, out_of_range, number_of}
+use Rattle.paper.specs.declared.refusal.Refusal.{Refusal}
+use Rattle.registers.specs.declared.Registers.{Registers}
+use Rattle.state.specs.Packed.{unpacked}
 
 -- one of the n bytes from i on is above `most`
 abbrev pub above : ℕ → List ℕ → ℕ → ℕ → Bool
@@ -24,3 +27,7 @@ unfit b = odd_flag b || (eqb (get_or b 16 0) 0 && ltb 0 (get_or b 17 0)) || ltb 
 -- an unfit state is refused with 2, but with 1 where a buffer's size is wrong
 abbrev pub unfit_number : Bool → ℕ
 unfit_number wrong = cond wrong wrong_size out_of_range
+
+-- the registers that the bytes stand for, or the refusal of bytes that stand for none
+abbrev pub AreIn : List ℕ → Bool → Result Registers Refusal → Type 0
+AreIn b wrong r = MatchResult r (λ n. (unfit b ≡ false) × (n ≡ unpacked b)) (λ e. (unfit b ≡ true) × (number_of e ≡ unfit_number wrong))

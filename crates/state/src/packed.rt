@@ -1,6 +1,6 @@
 // The state: the registers in 32 bytes, each at its offset, the spare ones 0.
 ghost use Rattle.std.specs.Prelude.{◌≡◌};
-ghost use Rattle.state.specs.Packed.{flag_byte, modify_byte, saved_byte, awaited_byte, set_byte, modify_of, awaited_of, set_of, beside_of, packed, unpacked};
+ghost use Rattle.state.specs.Packed.{flag_byte, modify_byte, saved_byte, modify_of, awaited_of, set_of, beside_of, packed, unpacked};
 
 use instructions::added::CommandSet;
 use instructions::instruction::Awaited;
@@ -57,14 +57,14 @@ const DUTY: usize = 22;
 
 const INVERSION: usize = 23;
 
-// A register of 0 or 1 as a byte.
+// A register of 0 or 1 as a byte, by the definition's name.
 pub fn flag_byte(on: bool) -> u8
     ensures { result ≡ flag_byte on }
 {
-    if on { 1 } else { 0 }
+    u8::from(on)
 }
 
-// Whether modify-read is on, as a byte.
+// Whether modify-read is on, as a byte. No `From`: two bytes stand for the one value.
 fn modify_byte(mode: ModifyRead) -> u8
     ensures { result ≡ modify_byte mode }
 {
@@ -84,30 +84,6 @@ fn saved_byte(mode: ModifyRead) -> u8
     }
 }
 
-// Which second byte is awaited: 0 nothing, 1 contrast, 2 indicator, 3 initial COM0, 4 duty, 5 inversion.
-fn awaited_byte(awaited: Awaited) -> u8
-    ensures { result ≡ awaited_byte awaited }
-{
-    match awaited {
-        Awaited::Nothing => 0,
-        Awaited::Contrast => 1,
-        Awaited::Indicator => 2,
-        Awaited::Com0 => 3,
-        Awaited::Duty => 4,
-        Awaited::Inversion => 5,
-    }
-}
-
-// Which command set is in force: 0 old, 1 new.
-pub fn set_byte(set: CommandSet) -> u8
-    ensures { result ≡ set_byte set }
-{
-    match set {
-        CommandSet::Old => 0,
-        CommandSet::New => 1,
-    }
-}
-
 // Modify-read from its byte and the saved column.
 fn modify_of(byte: u8, saved: u8) -> ModifyRead
     ensures { result ≡ modify_of byte saved }
@@ -118,46 +94,26 @@ fn modify_of(byte: u8, saved: u8) -> ModifyRead
     ModifyRead::Off
 }
 
-// What is awaited, from its byte.
-pub fn awaited_of(byte: u8) -> Awaited
+// What is awaited, from its byte: nothing where it is none of the six.
+fn awaited_of(byte: u8) -> Awaited
     ensures { result ≡ awaited_of byte }
 {
-    if byte == 1 {
-        return Awaited::Contrast;
-    }
-    if byte == 2 {
-        return Awaited::Indicator;
-    }
-    if byte == 3 {
-        return Awaited::Com0;
-    }
-    if byte == 4 {
-        return Awaited::Duty;
-    }
-    if byte == 5 {
-        return Awaited::Inversion;
-    }
-    Awaited::Nothing
+    Awaited::try_from(byte).unwrap_or(Awaited::Nothing)
 }
 
-// The command set, from its byte.
-pub fn set_of(byte: u8) -> CommandSet
+// The command set, from its byte: the old one where it is neither.
+fn set_of(byte: u8) -> CommandSet
     ensures { result ≡ set_of byte }
 {
-    if byte == 1 {
-        return CommandSet::New;
-    }
-    CommandSet::Old
+    CommandSet::try_from(byte).unwrap_or(CommandSet::Old)
 }
 
-// The bytes that stand for the registers.
+// The bytes that stand for the registers. No `From`: the bytes are an array, as C has them, and the registers are another crate's.
 pub fn pack(registers: Registers) -> State
     ensures { result ≡ packed registers }
 {
     let mode = registers.modify_read;
-    let awaited = registers.awaited;
     let beside = registers.beside;
-    let set = beside.set;
     let mut bytes = [0u8; 32];
     bytes[PAGE] = registers.page;
     bytes[COLUMN] = registers.column.0;
@@ -177,9 +133,9 @@ pub fn pack(registers: Registers) -> State
     bytes[PIN_LOW] = flag_byte(registers.pin_low);
     bytes[MODIFY_READ] = modify_byte(mode);
     bytes[SAVED_COLUMN] = saved_byte(mode);
-    bytes[AWAITED] = awaited_byte(awaited);
+    bytes[AWAITED] = u8::from(registers.awaited);
     bytes[FRESH] = flag_byte(registers.fresh);
-    bytes[SET] = set_byte(set);
+    bytes[SET] = u8::from(beside.set);
     bytes[COM0] = beside.com0;
     bytes[DUTY] = beside.duty;
     bytes[INVERSION] = beside.inversion;

@@ -1,14 +1,15 @@
 // Which bytes stand for no registers, and the number that they are refused with.
 ghost use Rattle.std.specs.Prelude.{◌≡◌};
-ghost use Rattle.state.specs.Unfit.{odd_flag, spare_used, unfit, unfit_number};
+ghost use Rattle.state.specs.Unfit.{odd_flag, spare_used, unfit, AreIn};
 
 use crate::packed::{
     ADC, AWAITED, BIAS, ENTIRE, FRESH, INDICATOR, MODIFY_READ, ON, PIN_LOW, REVERSE, SAVED_COLUMN,
-    SET, SHL, State,
+    SET, SHL, State, unpack,
 };
-use paper::refusal::{OUT_OF_RANGE, WRONG_SIZE};
+use paper::refusal::Refusal;
+use registers::Registers;
 
-// Whether a byte that is to be 0 or 1 is neither.
+// Whether a byte that is to be 0 or 1 is neither: each by its register's name, which a search among offsets would hide.
 fn odd_flag(state: &State) -> bool
     ensures { result ≡ odd_flag state.now }
 {
@@ -29,28 +30,29 @@ fn odd_flag(state: &State) -> bool
 fn spare_used(state: &State) -> bool
     ensures { result ≡ spare_used state.now }
 {
-    (0 < state[24])
-        | (0 < state[25])
-        | (0 < state[26])
-        | (0 < state[27])
-        | (0 < state[28])
-        | (0 < state[29])
-        | (0 < state[30])
-        | (0 < state[31])
+    (24..32).any(|i| 0 < state[i])
 }
 
 // Whether the bytes stand for no registers. What is left to test then are the ranges of the registers, which the crates below do.
 pub fn is_unfit(state: &State) -> bool
     ensures { result ≡ unfit state.now }
 {
-    let odd = odd_flag(state);
-    let used = spare_used(state);
-    odd | ((state[MODIFY_READ] == 0) & (0 < state[SAVED_COLUMN])) | (5 < state[AWAITED]) | used
+    odd_flag(state)
+        | ((state[MODIFY_READ] == 0) & (0 < state[SAVED_COLUMN]))
+        | (5 < state[AWAITED])
+        | spare_used(state)
 }
 
-// The number that an unfit state is refused with: 2, but 1 where a buffer's size is wrong.
-pub fn unfit_number(wrong: bool) -> u8
-    ensures { result ≡ unfit_number wrong }
+// The registers that the bytes stand for. Refuses bytes that stand for none with 2, but with 1 where a buffer's size is wrong.
+pub fn registers_in(state: &State, wrong: bool) -> Result<Registers, Refusal>
+    ensures { AreIn state.now wrong result }
 {
-    if wrong { WRONG_SIZE } else { OUT_OF_RANGE }
+    if !is_unfit(state) {
+        return Ok(unpack(state));
+    }
+    Err(if wrong {
+        Refusal::WrongSize
+    } else {
+        Refusal::OutOfRange
+    })
 }

@@ -1,9 +1,10 @@
 -- The room is for any text, so the answer is the text and never a refusal.
-use Rattle.player.proofs.Fitting.{whole, never}
+use Rattle.std.proofs.Common.{refl}
+use Rattle.jobs.proofs.Fitting.{given, whole}
 use Rattle.player.proofs.play_text.Goals as goal
 
-pub returns-in-Text : goal.returns-in-Text
-returns-in-Text c = whole _ _ c.play.ensures c.requires c.in-Text.is
+pub unwrap-requires : goal.unwrap-requires
+unwrap-requires c = let e = given c.play.ensures c.requires in rw e refl
 
-pub returns-in-Refused : goal.returns-in-Refused
-returns-in-Refused c = absurd (never _ _ c.play.ensures c.requires c.in-Refused.is)
+pub returns : goal.returns
+returns c = whole c.play.ensures c.requires c.unwrap.ensures

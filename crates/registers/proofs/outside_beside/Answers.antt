@@ -7,4 +7,4 @@ use Rattle.registers.proofs.outside_beside.Goals as goal
 pub returns : goal.returns
 unfolding outside_beside
 returns c =
-    rw c.of_other-other.ensures refl
+    rw c.of_other.ensures refl

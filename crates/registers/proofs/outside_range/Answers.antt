@@ -13,4 +13,4 @@ overflow_mul-columns c =
 pub returns : goal.returns
 unfolding outside
 returns c =
-    rw (c.saved_column-saved.ensures, c.outside_beside-unset.ensures) refl
+    rw (c.saved_column-saved.ensures, c.outside_beside.ensures) refl

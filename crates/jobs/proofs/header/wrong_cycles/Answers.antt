@@ -1,24 +1,20 @@
--- `jobs::header::wrong_cycles` meets its contract: before each cycle, whether one from there on is wrong is whether one at all is.
+-- `jobs::header::wrong_cycles` meets its contract: a wrong cycle is looked for among their numbers.
 -- Assumes nothing.
-use Prim.Native.Nat.{◌-◌}
-use mathlib.Core.Path.{◌≡◌, sym, ◌∙◌}
+use mathlib.Core.Path.{refl, ◌∙◌}
 use native.Mathlib.Omega.{arith}
 use borrow.Author.Rules.{rules}
-use Rattle.jobs.proofs.Scan.{scan_good, scan_wrong, scan_end}
+use borrow.Author.Tests.{tests}
+use Rattle.std.proofs.lemmas.Iterator.{YieldsList-from_range}
+use Rattle.std.proofs.lemmas.Iterator.Search.{any_from_yields_List}
+use Rattle.controller.specs.Cycle.{malformed}
+use Rattle.jobs.specs.Header.{cycle_at}
+use Rattle.jobs.proofs.Scan.{scan_listed}
 use Rattle.jobs.proofs.header.wrong_cycles.Goals as goal
-
-pub loop-i-init : goal.loop-i-init
-loop-i-init c =
-    let e : c.args.n - 0 ≡ c.args.n = omega arith in (search rules, rw e)
-
-pub returns-then-not_a_cycle : goal.returns-then-not_a_cycle
-returns-then-not_a_cycle c =
-    sym (c.loop-i.invariant.1 ∙ scan_wrong _ _ _ c.loop-i-test.true (sym c.not_a_cycle.ensures ∙ c.if-not_a_cycle.true))
-
-pub loop-i-preserved : goal.loop-i-preserved
-loop-i-preserved c =
-    (search rules, c.loop-i.invariant.1 ∙ scan_good _ _ _ c.loop-i-test.true (sym c.not_a_cycle.ensures ∙ c.if-not_a_cycle.false))
 
 pub returns : goal.returns
 returns c =
-    sym (c.loop-i.invariant.1 ∙ scan_end _ _ _ c.loop-i-test.false)
+    let file = c.args.file.now in
+    any_from_yields_List (λ i. malformed (cycle_at file i).0 (cycle_at file i).1) _ _ c.any.result c.any.ensures.ran
+    (YieldsList-from_range 0 c.args.n c.args.n refl (omega arith))
+    (λ x b q k. search (rules, tests))
+    ∙ scan_listed file 0 c.args.n

@@ -1,15 +1,14 @@
--- `jobs::text::digit` meets its contract: below 10, and from 10 on.
+-- `jobs::text::digit` meets its contract: the table has the sixteen digits in a row.
 -- Assumes nothing.
-use Rattle.paper.proofs.Tests.{tests}
+use Prim.Native.Nat.{ℕ}
+use mathlib.Core.Path.{sym, ap, ◌∙◌}
+use mathlib.Core.List.{List}
+use lib.ListN.{get_or}
+use Rattle.paper.proofs.Listed.{at}
 use Rattle.jobs.specs.Text.{digit}
+use Rattle.jobs.proofs.Digits.{digits_are}
 use Rattle.jobs.proofs.text.digit.Goals as goal
 
-pub returns-then-d-lt10 : goal.returns-then-d-lt10
-unfolding digit
-returns-then-d-lt10 c =
-    search tests
-
-pub returns-else-d-lt10 : goal.returns-else-d-lt10
-unfolding digit
-returns-else-d-lt10 c =
-    search tests
+pub returns : goal.returns
+returns c =
+    ap (λ (l : List ℕ). get_or l c.args.d 0) (sym digits_are) ∙ at digit 16 c.args.d c.requires

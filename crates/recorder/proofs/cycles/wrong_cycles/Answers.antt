@@ -1,21 +1,16 @@
--- `recorder::cycles::wrong_cycles` meets its contract: before each cycle, whether one from there on is wrong is whether one at all is.
+-- `recorder::cycles::wrong_cycles` meets its contract: the chunks are the cycles, and one is looked for among them.
 -- Assumes nothing.
-use mathlib.Core.Path.{refl, sym, ◌∙◌}
-use Rattle.recorder.proofs.CycleBytes.{scan_good, scan_wrong, scan_end}
+use mathlib.Core.Path.{◌∙◌}
+use borrow.Author.Rules.{rules}
+use borrow.Author.Tests.{tests}
+use Rattle.std.proofs.lemmas.Iterator.Search.{any_from_yields_List}
+use Rattle.controller.specs.Cycle.{malformed}
+use Rattle.recorder.proofs.Chunked.{cycles_chunked, wrong_listed}
 use Rattle.recorder.proofs.cycles.wrong_cycles.Goals as goal
-
-pub loop-i-init : goal.loop-i-init
-loop-i-init c =
-    refl
-
-pub returns-then-not_a_cycle : goal.returns-then-not_a_cycle
-returns-then-not_a_cycle c =
-    sym (c.loop-i.invariant ∙ scan_wrong _ _ c.loop-i-test.true (sym c.not_a_cycle.ensures ∙ c.if-not_a_cycle.true))
-
-pub loop-i-preserved : goal.loop-i-preserved
-loop-i-preserved c =
-    c.loop-i.invariant ∙ scan_good _ _ c.loop-i-test.true (sym c.not_a_cycle.ensures ∙ c.if-not_a_cycle.false)
 
 pub returns : goal.returns
 returns c =
-    sym (c.loop-i.invariant ∙ scan_end _ _ c.loop-i-test.false)
+    any_from_yields_List (λ x. malformed x.0 x.1) _ _ c.any.result c.any.ensures.ran
+    (cycles_chunked c.args.cycles.now c.chunks_exact.ensures.rest c.chunks_exact.ensures.size)
+    (λ x b q k. search (rules, tests))
+    ∙ wrong_listed _

@@ -1,8 +1,8 @@
--- `recorder::job::write_job` meets its contract: the definition's tests in its order, then header, cycles and pictures one after the other.
+-- `recorder::job::write_job` meets its contract: the definition's tests in its order, then header, cycles and pictures, copied one behind the other.
 -- Assumes nothing.
 use mathlib.Core.Path.{sym, ◌∙◌}
 use native.Mathlib.Omega.{arith}
-use Rattle.recorder.proofs.Answers.{job_size, job_many, job_pictures, job_wrong, job_short, job_given, room}
+use Rattle.recorder.proofs.Answers.{job_size, job_many, job_pictures, job_wrong, job_short, job_given}
 use Rattle.recorder.proofs.job.write_job.Goals as goal
 
 pub returns-then-wrong_pictures : goal.returns-then-wrong_pictures
@@ -31,13 +31,8 @@ pub count_field-requires : goal.count_field-requires
 count_field-requires c =
     omega (arith, c.if-most_pictures-count.false, c.most_pictures.ensures.1)
 
-pub put_all-requires : goal.put_all-requires
-put_all-requires c =
-    room c.args.cycles.now _ _ _ _ c.if-n-gt16000.false (omega (arith, c.if-most_pictures-count.false, c.most_pictures.ensures.1))
-    (sym c.wrong_pictures.ensures ∙ c.if-wrong_pictures.false) c.put_header-a1.ensures.near c.put_all-a2.ensures.near
-
 pub returns : goal.returns
 returns c =
     job_given _ _ _ _ _ (sym c.wrong_pictures.ensures ∙ c.if-wrong_pictures.false) c.if-n-gt16000.false (rw c.most_pictures.ensures.0 at c.if-most_pictures-count.false)
     (sym c.wrong_cycles.ensures ∙ c.if-wrong_cycles.false) c.if-out-total.false
-    (rw c.count_field.ensures.0 at c.put_header-a1.ensures) c.put_all-a2.ensures c.put_all.ensures
+    (c.copy_from_slice.ensures.after ∙ rw c.count_field.ensures.0 at c.header.ensures) c.copy_from_slice-2.ensures.after c.copy_from_slice-3.ensures.after

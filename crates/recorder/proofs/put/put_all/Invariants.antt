@@ -1,15 +1,11 @@
 -- `recorder::put::put_all` meets its contract: before each byte, those from it on, put now, give the whole.
 -- Assumes nothing.
-use Prim.Native.Nat.{◌+◌, ◌-◌, ◌≤◌}
+use Prim.Native.Nat.{◌+◌}
 use mathlib.Core.Path.{◌≡◌}
-use lib.ListN.{length, drop}
+use lib.ListN.{drop}
 use lib.Seq.{sets}
 use Rattle.recorder.proofs.put.put_all.Given as goal
 
 abbrev pub invariant-loop-i : goal.invariant-loop-i
 invariant-loop-i l =
-    (l.i ≤ length l.from) × (sets l.initial.out l.at l.from ≡ sets l.out (l.at + l.i) (drop l.i l.from))
-
-abbrev pub decreases-loop-i : goal.decreases-loop-i
-decreases-loop-i l =
-    length l.from - l.i
+    sets l.initial.out l.at l.from ≡ sets l.out (l.at + l.i) (drop l.i l.from)

@@ -5,10 +5,10 @@ use lib.ListN.{length}
 use Rattle.recorder.proofs.Reading.{Reading}
 use Rattle.recorder.proofs.text.read_lines.Given as goal
 
-abbrev pub invariant-loop-at : goal.invariant-loop-at
-invariant-loop-at l =
+abbrev pub invariant-loop-line : goal.invariant-loop-line
+invariant-loop-line l =
     Reading l.text l.initial.out l.out l.lines l.at
 
-abbrev pub decreases-loop-at : goal.decreases-loop-at
-decreases-loop-at l =
+abbrev pub decreases-loop-line : goal.decreases-loop-line
+decreases-loop-line l =
     length l.text - l.at

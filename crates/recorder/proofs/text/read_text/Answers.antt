@@ -9,11 +9,11 @@ returns-then-seen-text c =
 
 pub returns-then-seen-gt16000 : goal.returns-then-seen-gt16000
 returns-then-seen-gt16000 c =
-    read_many _ _ c.read_lines-seen.ensures c.if-seen-text.false c.if-seen-gt16000.true
+    rw c.into.ensures (read_many _ _ c.read_lines-seen.ensures c.if-seen-text.false c.if-seen-gt16000.true)
 
 pub returns-then-out-seen : goal.returns-then-out-seen
 returns-then-out-seen c =
-    read_short _ _ c.read_lines-seen.ensures c.if-seen-text.false c.if-seen-gt16000.false c.if-out-seen.true
+    rw c.into-then-out-seen.ensures (read_short _ _ c.read_lines-seen.ensures c.if-seen-text.false c.if-seen-gt16000.false c.if-out-seen.true)
 
 pub returns : goal.returns
 returns c =

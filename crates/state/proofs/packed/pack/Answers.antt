@@ -16,6 +16,6 @@ returns c =
     c.flag_byte-8.ensures
     c.modify_byte.ensures
     c.saved_byte.ensures
-    c.awaited_byte.ensures
+    c.from.ensures
     c.flag_byte-9.ensures
-    c.set_byte.ensures
+    c.from-2.ensures

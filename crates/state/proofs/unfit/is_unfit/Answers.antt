@@ -7,4 +7,4 @@ use Rattle.state.proofs.unfit.is_unfit.Goals as goal
 pub returns : goal.returns
 unfolding unfit
 returns c =
-    rw (c.spare_used-used.ensures, c.odd_flag-odd.ensures) refl
+    rw (c.spare_used.ensures, c.odd_flag.ensures) refl

@@ -1,7 +1,10 @@
 -- The registers are in their ranges, so the frame is drawn.
-use Rattle.std.proofs.Common.{rules, sym}
+use Rattle.std.proofs.Common.{sym, refl}
 use Rattle.viewer.proofs.Showing.{frame_given}
 use Rattle.viewer.proofs.draw.lit_frame.Goals as goal
 
+pub unwrap-requires : goal.unwrap-requires
+unwrap-requires c = let e = (frame_given c.requires c.told-memory (sym c.room-out.ensures) c.frame.ensures).0 in rw e refl
+
 pub returns : goal.returns
-returns c = (search rules, frame_given c.requires.0 c.requires.1 (sym c.room-out.ensures) c.frame.ensures)
+returns c = (frame_given c.requires c.told-memory (sym c.room-out.ensures) c.frame.ensures).1

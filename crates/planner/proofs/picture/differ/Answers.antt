@@ -1,8 +1,0 @@
--- `planner::picture::differ` meets its contract: it compares what the two pictures show.
--- Assumes nothing.
-use Rattle.planner.proofs.Showing.{differ_is}
-use Rattle.planner.proofs.picture.differ.Goals as goal
-
-pub returns : goal.returns
-returns c =
-    differ_is _ _ _ _ _ _ _ c.shown_at-before.ensures c.shown_at-after.ensures

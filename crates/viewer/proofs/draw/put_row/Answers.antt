@@ -1,7 +1,0 @@
--- Behind the last character, all of them are the row's.
-use Rattle.std.proofs.Common.{arith}
-use Rattle.paper.proofs.Listed.{whole}
-use Rattle.viewer.proofs.draw.put_row.Goals as goal
-
-pub returns : goal.returns
-returns c = whole _ c.loop-i.line _ c.loop-i.invariant.1 (λ k h. c.loop-i.invariant.2 k (omega arith))

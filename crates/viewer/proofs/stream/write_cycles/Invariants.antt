@@ -1,9 +1,0 @@
--- Each cycle is one of the n.
-use Rattle.std.proofs.Common.{◌-◌, ◌≤◌}
-use Rattle.viewer.proofs.stream.write_cycles.Given as goal
-
-abbrev pub invariant-loop-i : goal.invariant-loop-i
-invariant-loop-i g l = l.i ≤ l.n
-
-abbrev pub decreases-loop-i : goal.decreases-loop-i
-decreases-loop-i g l = l.n - l.i

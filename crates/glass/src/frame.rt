@@ -79,7 +79,8 @@ fn check<C: Chip>(registers: Registers, memory: usize, frame: usize) -> Result<(
 }
 
 // Draws the lit frame of a chip into `out`; rows that the chip lacks are dark. Refuses with 1, 2, tested in this order; a refusal
-// leaves `out` as it was.
+// leaves `out` as it was. Not inlined: within a call for C the KS0717's loops take a quarter more instructions.
+#[inline(never)]
 #[tactic(auto, using(crate::proofs::Places::long))]
 pub fn frame<C: Chip>(registers: Registers, memory: &[u8], out: &mut [u8]) -> Result<(), Refusal>
     ensures { IsShown C.sheet registers memory.now out.old result out.new }

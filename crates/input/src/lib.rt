@@ -3,14 +3,16 @@
 
 pub mod arguments;
 
-ghost use Rattle.std.specs.Prelude.{◌≡◌, ◌≤◌, length, IfOk};
+ghost use Rattle.std.specs.Prelude.{◌≡◌, ◌≤◌, length, replicate, IfOk};
 
 use std::io;
 use std::io::Read;
 
-// Room for so many bytes: the programs use no heap, as the library does, so that no input makes one fail for memory. It stands in a function of its own, so that its bytes are not computed where it is used.
+// Room for so many bytes, all 0: the programs use no heap, as the library does, so that no input makes one fail for memory. It stands in a
+// function of its own, so that its bytes are not computed where it is used.
 pub fn room<const N: usize>() -> [u8; N]
-    ensures { N ≡ length result }
+    ensures long { N ≡ length result }
+    ensures zeros { result ≡ replicate N 0 }
 {
     [0; N]
 }

@@ -6,7 +6,7 @@ use mathlib.Core.List.{List, ◌++◌, append-nil}
 use native.Mathlib.Nat.{zero-add}
 use native.Mathlib.Numerals.{add-one}
 use native.Mathlib.Omega.{arith}
-use lib.ListN.{length, take, drop, length-append, length-drop}
+use lib.ListN.{length, drop, length-append, length-drop}
 use lib.Seq.{sets, sets-eq, length-take-le}
 use borrow.Author.Tests.{lt-ltb, le-ltb}
 use Rattle.std.specs.Prelude.{Result, Ok, Err}
@@ -83,15 +83,9 @@ module _ (file : List ℕ) (j : Job) (h : Holds file j) (two : 2 ≤ j.pictures)
       let d : 1188 ≤ length (drop (8 + 2 * j.cycles + 1188) file) = rw length-drop (omega (arith, h.whole)) in
       length-take-le 1188 (drop (8 + 2 * j.cycles + 1188) file) d
 
-  -- the part of the file that picture 2 is, as the code cuts it
-  abbrev part : List ℕ
-  part = take (8 + 2 * j.cycles + 1188 + 1188 - (8 + 2 * j.cycles + 1188)) (drop (8 + 2 * j.cycles + 1188) file)
-
-  module _ {a : Result ℕ Refusal} (q : IsLength 132 m part a) where
+  module _ {a : Result ℕ Refusal} (q : IsLength 132 m (picture2 file j.cycles) a) where
     wanted_told : told a ≡ given (update_length 132 m (picture2 file j.cycles))
-    wanted_told =
-        let e : 8 + 2 * j.cycles + 1188 + 1188 - (8 + 2 * j.cycles + 1188) ≡ 1188 = omega arith in
-        rw ((right_size 132 m (picture2 file j.cycles)).1 (long, picture2_long)) at (rw e at q.tells)
+    wanted_told = rw ((right_size 132 m (picture2 file j.cycles)).1 (long, picture2_long)) at q.tells
 
     -- so the planner gives it, and never refuses
     pub wanted_given : a ≡ Ok (update_length 132 m (picture2 file j.cycles))

@@ -6,7 +6,7 @@ ghost use Rattle.streams.specs.Length.{update_length};
 ghost use Rattle.jobs.specs.Header.{picture2};
 ghost use Rattle.jobs.specs.Play.{line_of, ending, text_from, power_up, text_of, IsPlayed};
 ghost use Rattle.jobs.specs.Output.{Put, Holds, line_most, lines_most, ending_most, text_most};
-ghost use Rattle.jobs.specs.Texts.{Puts, Turned};
+ghost use Rattle.jobs.specs.Texts.{Puts, Turned, line_by_kind};
 
 use crate::header::{Job, read_header};
 use crate::memory::start_memory;
@@ -47,7 +47,8 @@ impl<'a> Good<'a> {
     // One cycle, with its line.
     fn turn(&self, i: usize, registers: Registers, memory: &mut [u8], text: &mut Text) -> Registers
         requires { (i < self.now.job.cycles) × (text.old.at + line_most ≤ text_most) }
-        ensures { Turned self.now.file.now i (state registers memory.old) text.old (state result memory.new) text.new }
+        ensures turned { Turned self.now.file.now i (state registers memory.old) text.old (state result memory.new) text.new }
+        ensures by_kind { Puts text.old (line_by_kind self.now.file.now i (state registers memory.old)) text.new line_most }
     {
         let file = self.file;
         let answer = cycle::<Ks0713>(registers, memory, file[8 + 2 * i], file[9 + 2 * i]);
@@ -55,14 +56,22 @@ impl<'a> Good<'a> {
         registers_after(registers, answer)
     }
 
+    // Picture 2.
+    fn picture2(&self) -> &'a [u8]
+        requires { 2 ≤ self.now.job.pictures }
+        ensures { result.now ≡ picture2 self.now.file.now self.now.job.cycles }
+    {
+        let from = 8 + 2 * self.job.cycles + 1188;
+        let to = from + 1188;
+        &self.file[from..to]
+    }
+
     // How many bytes the update to picture 2 has.
     fn wanted_length(&self, memory: &[u8]) -> usize
         requires { (2 ≤ self.now.job.pictures) × (length memory.now ≡ 1188) }
         ensures { result ≡ update_length 132 memory.now (picture2 self.now.file.now self.now.job.cycles) }
     {
-        let from = 8 + 2 * self.job.cycles + 1188;
-        let to = from + 1188;
-        update_length::<Ks0713>(memory, &self.file[from..to]).unwrap()
+        update_length::<Ks0713>(memory, self.picture2()).unwrap()
     }
 
     // The last lines.

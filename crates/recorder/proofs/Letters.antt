@@ -4,9 +4,11 @@ use Prim.Native.Nat.{ℕ, zero, suc, ◌+◌, ◌≤◌, ◌<◌}
 use mathlib.Core.Path.{◌≡◌, refl, ◌∙◌}
 use mathlib.Core.Logic.{◌≢◌}
 use mathlib.Core.Bool.{Bool, cond}
+use mathlib.Core.List.{[], ◌∷◌}
 use native.Mathlib.Omega.{arith}
 use borrow.Author.Tests.{lt-ltb, le-ltb, le-leb, lt-leb, eqb-true}
 use lib.Dec.{eqb}
+use Rattle.paper.specs.Listed.{listed}
 use Rattle.paper.proofs.Cases.{split, less, chosen}
 use Rattle.jobs.specs.Text.{digit}
 use Rattle.jobs.proofs.Digits.{digit_low, digit_high}
@@ -33,6 +35,11 @@ letter_back c h = split (eqb c 105) (λ t. rw (eqb-true c 105 t) refl)
     (λ e. split (eqb c 108) (λ t. rw (eqb-true c 108 t) refl)
     (λ f. split (eqb c 104) (λ t. rw (eqb-true c 104 t) refl)
     (λ g. absurd (let z = rw (a, b, d, e, f, g) at h in omega arith)))))))
+
+-- all six in a row
+pub letters_are : listed letter_of 0 6 ≡ 105 ∷ 100 ∷ 115 ∷ 114 ∷ 108 ∷ 104 ∷ []
+unfolding letter_of
+letters_are = refl
 
 -- 0 is no letter's, so a text that has ended has none
 pub letter_some : (k : ℕ) → letter_of k ≢ 0

@@ -1,5 +1,5 @@
 // Job files, written.
-ghost use Rattle.std.specs.Prelude.{◌≡◌, ◌≤◌, ◌<◌};
+ghost use Rattle.std.specs.Prelude.{◌≡◌, ◌≤◌, ◌<◌, length};
 ghost use Rattle.recorder.specs.Job.{most_pictures, count_field, header_bytes, wrong_pictures, IsWrittenJob};
 
 use crate::cycles::wrong_cycles;
@@ -41,6 +41,17 @@ fn header(n: usize, field: usize) -> [u8; 8]
     [n0, n1, 8, 0, field0, field1, pictures0, pictures1]
 }
 
+// A slice's bytes, copied over one that is as long. Not by `copy_from_slice`: for that the archive would take `memmove` from
+// outside.
+fn copy(from: &[u8], to: &mut [u8])
+    requires { length from.now ≡ length to.old }
+    ensures { to.new ≡ from.now }
+{
+    for (i, byte) in from.iter().enumerate() {
+        to[i] = *byte;
+    }
+}
+
 // Writes a job file that powers up in a command set, from cycles and `count` pictures, one behind the other. Answers the file's length;
 // refuses with 1 where the pictures are not `count` of 1,188 bytes, with 6 where there are more than 16,000 cycles or two pictures, in the
 // new set one, or a cycle is none, with 5 where the output is shorter than the file, tested in this order, and leaves the output then. A
@@ -72,8 +83,8 @@ pub fn write_job(
     if out.len() < total {
         return Err(Refusal::ShortOutput);
     }
-    out[..8].copy_from_slice(&header(n, count_field(set, count)));
-    out[8..behind].copy_from_slice(&cycles[..2 * n]);
-    out[behind..total].copy_from_slice(pictures);
+    copy(&header(n, count_field(set, count)), &mut out[..8]);
+    copy(&cycles[..2 * n], &mut out[8..behind]);
+    copy(pictures, &mut out[behind..total]);
     Ok(total)
 }

@@ -17,19 +17,16 @@ pub(crate) struct Line {
     pub long: usize,
 }
 
-// The letter of a kind, by its number: what is put are the bytes of a list, and to make a kind of each could fail.
+// The letter of a kind, by its number: what is put are the bytes of a list, and to make a kind of each could fail. By a table, since a
+// `match` of numbers is a jump through one, which a list of mixed kinds makes slow.
 #[tactic(auto, using(paper::proofs::Tests::tests), unfolding(crate::specs::Line::letter_of))]
 fn letter_of(kind: u8) -> u8
     ensures { result ≡ letter_of kind }
 {
-    match kind {
-        0 => b'i',
-        1 => b'd',
-        2 => b's',
-        3 => b'r',
-        4 => b'l',
-        _ => b'h',
+    if 5 < kind {
+        return b'h';
     }
+    b"idsrlh"[kind as usize]
 }
 
 // The line of a cycle.

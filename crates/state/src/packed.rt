@@ -95,14 +95,14 @@ fn modify_of(byte: u8, saved: u8) -> ModifyRead
 }
 
 // What is awaited, from its byte: nothing where it is none of the six.
-fn awaited_of(byte: u8) -> Awaited
+pub fn awaited_of(byte: u8) -> Awaited
     ensures { result ≡ awaited_of byte }
 {
     Awaited::try_from(byte).unwrap_or(Awaited::Nothing)
 }
 
 // The command set, from its byte: the old one where it is neither.
-fn set_of(byte: u8) -> CommandSet
+pub fn set_of(byte: u8) -> CommandSet
     ensures { result ≡ set_of byte }
 {
     CommandSet::try_from(byte).unwrap_or(CommandSet::Old)

@@ -35,4 +35,4 @@ pub returns : goal.returns
 returns c =
     job_given _ _ _ _ _ (sym c.wrong_pictures.ensures ∙ c.if-wrong_pictures.false) c.if-n-gt16000.false (rw c.most_pictures.ensures.0 at c.if-most_pictures-count.false)
     (sym c.wrong_cycles.ensures ∙ c.if-wrong_cycles.false) c.if-out-total.false
-    (c.copy_from_slice.ensures.after ∙ rw c.count_field.ensures.0 at c.header.ensures) c.copy_from_slice-2.ensures.after c.copy_from_slice-3.ensures.after
+    (c.copy.ensures ∙ rw c.count_field.ensures.0 at c.header.ensures) c.copy-2.ensures c.copy-3.ensures

@@ -15,7 +15,7 @@ loop-i-init c =
 pub loop-i-preserved : goal.loop-i-preserved
 loop-i-preserved c =
     let inv = c.loop-i.invariant in
-    let turn = c.turn-registers.ensures in
+    let turn = c.turn-registers.ensures.turned in
     (omega (arith, turn.line.put.near, inv.0), turn.line.same ∙ inv.1, remains_turn _ _ _ _ c.loop-i-test.true inv.2 turn)
 
 pub returns : goal.returns

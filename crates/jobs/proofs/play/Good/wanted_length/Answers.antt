@@ -6,9 +6,9 @@ use Rattle.jobs.proofs.play.Good.wanted_length.Goals as goal
 
 pub unwrap-requires : goal.unwrap-requires
 unwrap-requires c =
-    let e = wanted_given _ _ c.args.self.now.whole c.requires.0 _ c.requires.1 c.update_length.ensures in rw e refl
+    let e = wanted_given _ _ c.args.self.now.whole c.requires.0 _ c.requires.1 (rw c.picture2.ensures at c.update_length.ensures) in rw e refl
 
 pub returns : goal.returns
 returns c =
-    let e = wanted_given _ _ c.args.self.now.whole c.requires.0 _ c.requires.1 c.update_length.ensures in
+    let e = wanted_given _ _ c.args.self.now.whole c.requires.0 _ c.requires.1 (rw c.picture2.ensures at c.update_length.ensures) in
     let f = c.unwrap.ensures in cc
